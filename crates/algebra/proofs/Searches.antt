@@ -1,0 +1,152 @@
+-- Tests of all numbers, searches, and the greatest of integers.
+use Prim.Native.Nat.{ℕ, zero, suc, _≤_, _<_}
+use mathlib.Core.Path.{_≡_, refl, sym, ap, _∙_, subst}
+use mathlib.Core.Bool.{Bool, true, false, not, _||_, cond}
+use native.Mathlib.Omega.{arith}
+use native.Mathlib.Decide.{ℕ-discrete, decLe}
+use lib.Dec.{T}
+use mir.Facts.{and-yes, yes-and}
+use lib.IntN.{ℤ}
+use lib.Signed.{_≤ℤ_, ltZ, ltZ-yes, ltZ-no, ≤ℤ-refl}
+use Rattle.algebra.specs.Bounded.{allTo, anyTo, firstTo, larger, maxUpTo}
+use Rattle.algebra.proofs.Tests.{cond-no, or-left, or-right}
+use Rattle.algebra.proofs.Integers.{≤ℤ-trans, <ℤ→≤ℤ}
+
+-- where all pass, each does
+pub allTo-at : (n : ℕ) (p : ℕ → Bool) → T (allTo n p) → (i : ℕ) → i < n → T (p i)
+unfolding allTo
+allTo-at zero p t i l = absurd (omega arith)
+allTo-at (suc n) p t i l =
+    let h = and-yes (allTo n p) (p n) t in
+    elim (ℕ-discrete i n) [
+      | yes e ↦ subst (λ (k : ℕ). T (p k)) (sym e) (h .1)
+      | no e ↦ allTo-at n p (h .0) i (omega arith)
+    ]
+
+-- where each passes, all do
+pub allTo-make : (n : ℕ) (p : ℕ → Bool) → ((i : ℕ) → i < n → T (p i)) → T (allTo n p)
+unfolding allTo
+allTo-make zero p h = tt
+allTo-make (suc n) p h = yes-and (allTo n p) (p n) (allTo-make n p (λ i l. h i (omega arith))) (h n (omega arith))
+
+-- equal tests, over all numbers
+pub allTo-cong : (n : ℕ) (p q : ℕ → Bool) → ((i : ℕ) → i < n → p i ≡ q i) → allTo n p ≡ allTo n q
+unfolding allTo
+allTo-cong zero p q e = refl
+allTo-cong (suc n) p q e = rw (allTo-cong n p q (λ i l. e i (omega arith)), e n (omega arith))
+
+-- where some number passes, one is found
+pub anyTo-find : (n : ℕ) (p : ℕ → Bool) → T (anyTo n p) → (i : ℕ) × (i < n) × T (p i)
+unfolding anyTo
+anyTo-find zero p t = absurd t
+anyTo-find (suc n) p t = go (anyTo n p) (λ u. anyTo-find n p u) t
+  where
+    go : (b : Bool) → (T b → (i : ℕ) × (i < n) × T (p i)) → T (b || p n) → (i : ℕ) × (i < suc n) × T (p i)
+    go true found t = let r = found tt in (r .0, omega arith, r .2)
+    go false found t = (n, omega arith, t)
+
+-- a number that passes is some number
+pub anyTo-make : (n : ℕ) (p : ℕ → Bool) (i : ℕ) → i < n → T (p i) → T (anyTo n p)
+unfolding anyTo
+anyTo-make zero p i l t = absurd (omega arith)
+anyTo-make (suc n) p i l t =
+    elim (ℕ-discrete i n) [
+      | yes e ↦ or-right (anyTo n p) (p n) (subst (λ (k : ℕ). T (p k)) e t)
+      | no e ↦ or-left (anyTo n p) (p n) (anyTo-make n p i (omega arith) t)
+    ]
+
+-- the first number that passes is at most n
+pub firstTo-bound : (n : ℕ) (p : ℕ → Bool) → firstTo n p ≤ n
+unfolding firstTo
+firstTo-bound zero p = omega arith
+firstTo-bound (suc n) p = go (p 0) (firstTo-bound n (λ i. p (suc i)))
+  where
+    go : (b : Bool) → firstTo n (λ i. p (suc i)) ≤ n → cond b 0 (suc (firstTo n (λ i. p (suc i)))) ≤ suc n
+    go true l = omega arith
+    go false l = omega arith
+
+-- nothing below the first passes
+pub firstTo-before : (n : ℕ) (p : ℕ → Bool) (i : ℕ) → i < firstTo n p → ¬ T (p i)
+unfolding firstTo
+firstTo-before zero p i l t = absurd (omega arith)
+firstTo-before (suc n) p i l t = go (p 0) refl (firstTo-before n (λ j. p (suc j))) i l t
+  where
+    rest : ℕ
+    rest = firstTo n (λ j. p (suc j))
+
+    go : (b : Bool) → p 0 ≡ b → ((j : ℕ) → j < rest → ¬ T (p (suc j))) → (i : ℕ) → i < cond b 0 (suc rest) → ¬ T (p i)
+    go true e before i l t = omega arith
+    go false e before zero l t = subst T e t
+    go false e before (suc i) l t = before i (omega arith) t
+
+-- where some number passes, the first passes
+pub firstTo-found : (n : ℕ) (p : ℕ → Bool) (i : ℕ) → i < n → T (p i) → T (p (firstTo n p)) × (firstTo n p < n)
+unfolding firstTo
+firstTo-found zero p i l t = absurd (omega arith)
+firstTo-found (suc n) p i l t = go (p 0) refl (λ j. firstTo-found n (λ k. p (suc k)) j) i l t
+  where
+    rest : ℕ
+    rest = firstTo n (λ j. p (suc j))
+
+    go : (b : Bool) → p 0 ≡ b → ((j : ℕ) → j < n → T (p (suc j)) → T (p (suc rest)) × (rest < n)) → (i : ℕ) → i < suc n → T (p i) → T (p (cond b 0 (suc rest))) × (cond b 0 (suc rest) < suc n)
+    go true e found i l t = (subst T (sym e) tt, omega arith)
+    go false e found zero l t = absurd (subst T e t)
+    go false e found (suc i) l t = let h = found i (omega arith) t in (h .0, omega arith)
+
+-- the first is at most any number that passes
+pub firstTo-least : (n : ℕ) (p : ℕ → Bool) (i : ℕ) → i < n → T (p i) → firstTo n p ≤ i
+firstTo-least n p i l t =
+    elim (decLe (firstTo n p) i) [
+      | yes h ↦ h
+      | no h ↦ absurd (firstTo-before n p i (omega arith) t)
+    ]
+
+-- where none passes, the first is n
+pub firstTo-none : (n : ℕ) (p : ℕ → Bool) → ((i : ℕ) → i < n → ¬ T (p i)) → firstTo n p ≡ n
+unfolding firstTo
+firstTo-none zero p h = refl
+firstTo-none (suc n) p h = cond-no (p 0) 0 (suc (firstTo n (λ i. p (suc i)))) (h 0 (omega arith)) ∙ ap suc (firstTo-none n (λ i. p (suc i)) (λ i l. h (suc i) (omega arith)))
+
+-- the first of two is at most the larger
+pub larger-left : (a b : ℤ) → a ≤ℤ larger a b
+unfolding larger
+larger-left a b = go (ltZ a b) refl
+  where
+    go : (t : Bool) → ltZ a b ≡ t → a ≤ℤ cond t b a
+    go true e = <ℤ→≤ℤ (ltZ-yes (subst T (sym e) tt))
+    go false e = ≤ℤ-refl a
+
+-- the second of two is at most the larger
+pub larger-right : (a b : ℤ) → b ≤ℤ larger a b
+unfolding larger
+larger-right a b = go (ltZ a b) refl
+  where
+    go : (t : Bool) → ltZ a b ≡ t → b ≤ℤ cond t b a
+    go true e = ≤ℤ-refl b
+    go false e = ltZ-no (subst (λ (t : Bool). T (not t)) (sym e) tt)
+
+-- each is at most the greatest
+pub maxUpTo-above : (n : ℕ) (f : ℕ → ℤ) (i : ℕ) → i ≤ n → f i ≤ℤ maxUpTo n f
+unfolding maxUpTo
+maxUpTo-above zero f i l = subst (λ (k : ℕ). f k ≤ℤ f 0) (omega arith) (≤ℤ-refl (f 0))
+maxUpTo-above (suc n) f i l =
+    elim (ℕ-discrete i (suc n)) [
+      | yes e ↦ subst (λ (k : ℕ). f k ≤ℤ larger (maxUpTo n f) (f (suc n))) (sym e) (larger-right (maxUpTo n f) (f (suc n)))
+      | no e ↦ ≤ℤ-trans (maxUpTo-above n f i (omega arith)) (larger-left (maxUpTo n f) (f (suc n)))
+    ]
+
+-- the greatest is one of them
+pub maxUpTo-met : (n : ℕ) (f : ℕ → ℤ) → (i : ℕ) × (i ≤ n) × (maxUpTo n f ≡ f i)
+unfolding maxUpTo larger
+maxUpTo-met zero f = (0, omega arith, refl)
+maxUpTo-met (suc n) f = go (ltZ (maxUpTo n f) (f (suc n))) (maxUpTo-met n f)
+  where
+    go : (b : Bool) → (i : ℕ) × (i ≤ n) × (maxUpTo n f ≡ f i) → (i : ℕ) × (i ≤ suc n) × (cond b (f (suc n)) (maxUpTo n f) ≡ f i)
+    go true r = (suc n, omega arith, refl)
+    go false r = (r .0, omega arith, r .2)
+
+-- the greatest of equal integers
+pub maxUpTo-cong : (n : ℕ) (f h : ℕ → ℤ) → ((i : ℕ) → i ≤ n → f i ≡ h i) → maxUpTo n f ≡ maxUpTo n h
+unfolding maxUpTo
+maxUpTo-cong zero f h e = e 0 (omega arith)
+maxUpTo-cong (suc n) f h e = rw (maxUpTo-cong n f h (λ i l. e i (omega arith)), e (suc n) (omega arith))

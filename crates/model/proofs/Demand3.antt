@@ -1,0 +1,218 @@
+-- Demand 3, for a game that obeys the rules and a pair that fits it.
+use Prim.Native.Nat.{ℕ, _*_, _<_}
+use mathlib.Core.Path.{_≡_, sym, ap, _∙_, subst}
+use mathlib.Core.Bool.{Bool, cond}
+use mathlib.Core.List.{List}
+use native.Mathlib.Omega.{arith}
+use native.Mathlib.Nat as NatL
+use lib.Dec.{T, not-T}
+use lib.IntN.{ℤ, pos, _-ℤ_, _*ℤ_}
+use lib.Signed.{_≤ℤ_, _<ℤ_, ltZ, ltZ-yes, ltZ-no, clashℤ}
+use Rattle.algebra.proofs.Tests.{dec, cond-yes, cond-no}
+use Rattle.algebra.proofs.Integers.{le-to, to-le, sub-is, ≤ℤ-trans, nonneg-sub, scale-mono, scale-scale, scale-sub, scale-cancel}
+use Rattle.model.specs.Game.{Game, gameOf, Player, one, two, other, owns}
+use Rattle.model.specs.Sequences.{Move}
+use Rattle.model.specs.Plan.{PlanPair, planPairOf}
+use Rattle.model.specs.Earnings.{Equal, minus, listed, totalWeight, IsMixed, pureCount, againstBase, pureEarnings, mixedCount, mixedEarnings, planCount, planEarnings, valueBase, valueCount}
+use Rattle.model.specs.BestResponse.{bestCount, bestResponse}
+use Rattle.model.specs.Verdict.{Verdict, equilibrium, deviation, scaledBest, gain, deviates, verdict}
+use Rattle.model.specs.Demand1.{GameRules}
+use Rattle.model.specs.Demand3.{NoProfitableDeviation, moveWorth, LowestBest, Deviates, BasesPositive, Judged, Demand3}
+use Rattle.model.proofs.Demand1.{game-rules, plan-rules}
+use Rattle.model.proofs.Duality.{Fits, plan-at-most}
+use Rattle.model.proofs.Strategies.{pure-at-most, mixed-at-most}
+use Rattle.model.proofs.BestResponses.{response-move, response-sets, best-move, lower-move, response-pure, response-earns}
+use Rattle.model.proofs.Earnings.{bases-agree, own-count}
+
+-- the two players are not the same
+one≢two : ¬ (one ≡ two)
+one≢two e = let z : _≡_ {A = ℕ} 0 1 = ap code e in omega arith
+  where
+    code : Player → ℕ
+    code one = 0
+    code two = 1
+
+-- a deviation is no yes
+deviation≢equilibrium : (p : Player) (z : ℤ) (l : List Move) → ¬ (deviation p z l ≡ equilibrium)
+deviation≢equilibrium p z l e = let z : _≡_ {A = ℕ} 0 1 = ap code e in omega arith
+  where
+    code : Verdict → ℕ
+    code equilibrium = 1
+    code (deviation p z l) = 0
+
+-- Fractions over the bases that occur: E, and d times E.
+-- what is at most a count once multiplied by d is at most it as a fraction
+fraction-at-most : (d E : ℕ) (a c : ℤ) → (pos d *ℤ a) ≤ℤ c → (pos (d * E) *ℤ a) ≤ℤ (pos E *ℤ c)
+fraction-at-most d E a c h =
+    subst (λ (z : ℤ). z ≤ℤ (pos E *ℤ c)) (scale-scale E d a ∙ ap (λ (k : ℕ). pos k *ℤ a) (NatL.mul-comm E d)) (scale-mono E h)
+
+-- and the other way round, where E is above 0
+fraction-cancel : (d E : ℕ) (a c : ℤ) → 0 < E → (pos (d * E) *ℤ a) ≤ℤ (pos E *ℤ c) → (pos d *ℤ a) ≤ℤ c
+fraction-cancel d E a c z h =
+    scale-cancel E (pos d *ℤ a) c z
+    (subst (λ (z : ℤ). z ≤ℤ (pos E *ℤ c)) (sym (scale-scale E d a ∙ ap (λ (k : ℕ). pos k *ℤ a) (NatL.mul-comm E d))) h)
+
+-- a mixture that counts at most t times as much is at most as much
+mixture-at-most : (t E : ℕ) (m a : ℤ) → m ≤ℤ (pos t *ℤ a) → (pos E *ℤ m) ≤ℤ (pos (t * E) *ℤ a)
+mixture-at-most t E m a h =
+    subst (λ (z : ℤ). (pos E *ℤ m) ≤ℤ z) (scale-scale E t a ∙ ap (λ (k : ℕ). pos k *ℤ a) (NatL.mul-comm E t)) (scale-mono E h)
+
+-- the difference of a over E and c over d × E is (d × a - c) over d × E
+difference : (d E v : ℕ) (a c : ℤ) → d * E ≡ v → Equal (record { count = pos d *ℤ a -ℤ c; base = v }) (minus (record { count = a; base = E }) (record { count = c; base = d * E }))
+difference d E v a c e =
+    let same : pos (d * E) *ℤ a -ℤ pos E *ℤ c ≡ pos E *ℤ (pos d *ℤ a -ℤ c) =
+    ap (λ (z : ℤ). z -ℤ pos E *ℤ c) (sym (scale-scale E d a ∙ ap (λ (k : ℕ). pos k *ℤ a) (NatL.mul-comm E d))) ∙ sym (scale-sub E (pos d *ℤ a) c) in
+    sym
+    (ap (λ (z : ℤ). pos v *ℤ z) same
+    ∙ scale-scale v E (pos d *ℤ a -ℤ c)
+    ∙ ap (λ (k : ℕ). pos k *ℤ (pos d *ℤ a -ℤ c)) (NatL.mul-comm v E ∙ ap (λ (k : ℕ). E * k) (sym e)))
+
+-- a difference that is not above 0
+not-above-zero : (x v : ℤ) → ¬ T (ltZ (pos 0) (x -ℤ v)) → x ≤ℤ v
+not-above-zero x v n = let a : (x -ℤ v) ≤ℤ pos 0 = ltZ-no (not-T (ltZ (pos 0) (x -ℤ v)) n) in to-le x v (omega (arith, le-to (x -ℤ v) (pos 0) a, sub-is x v))
+
+above-zero : (x v : ℤ) → T (ltZ (pos 0) (x -ℤ v)) → ¬ (x ≤ℤ v)
+above-zero x v t h = let a : pos 0 <ℤ (x -ℤ v) = ltZ-yes t in clashℤ a (to-le (x -ℤ v) (pos 0) (omega (arith, le-to x v h, sub-is x v)))
+
+module _ (g : Game) (R : GameRules g) (q : PlanPair) (F : (p : Player) → Fits g p (q p)) where
+  -- the value is at most the denominator times the best value, so no gain is below 0
+  pub gain-not-negative : (p : Player) → pos 0 ≤ℤ gain g q p
+  unfolding gain scaledBest
+  gain-not-negative p =
+      nonneg-sub (valueCount g q p) (pos (q p .denominator) *ℤ bestCount g p (q (other p)))
+      (subst (λ (z : ℤ). z ≤ℤ (pos (q p .denominator) *ℤ bestCount g p (q (other p)))) (own-count g q p) (plan-at-most g R p (q (other p)) (q p) (F p)))
+
+  -- where p's gain is not above 0, he has no profitable deviation
+  content : (p : Player) → ¬ T (ltZ (pos 0) (gain g q p)) → NoProfitableDeviation g q p
+  unfolding NoProfitableDeviation pureEarnings planEarnings gain scaledBest
+  content p n σ legal =
+      let d = q p .denominator in
+      let y = q (other p) in
+      fraction-at-most d (againstBase g p y) (pureCount g p y σ) (planCount g p y (q p))
+      (≤ℤ-trans (scale-mono d (pure-at-most g R p y σ legal))
+      (subst (λ (z : ℤ). (pos d *ℤ bestCount g p y) ≤ℤ z) (sym (own-count g q p)) (not-above-zero (pos d *ℤ bestCount g p y) (valueCount g q p) n)))
+
+  -- where it is above 0, the best response is one
+  gainful : (p : Player) → 0 < againstBase g p (q (other p)) → T (ltZ (pos 0) (gain g q p)) → ¬ NoProfitableDeviation g q p
+  unfolding NoProfitableDeviation pureEarnings planEarnings gain scaledBest
+  gainful p z t c =
+      let d = q p .denominator in
+      let y = q (other p) in
+      let σ = listed (bestResponse g p y) in
+      above-zero (pos d *ℤ bestCount g p y) (valueCount g q p) t
+      (subst (λ (k : ℤ). (pos d *ℤ bestCount g p y) ≤ℤ k) (own-count g q p)
+      (subst (λ (k : ℤ). (pos d *ℤ k) ≤ℤ planCount g p y (q p)) (response-earns g p y R)
+      (fraction-cancel d (againstBase g p y) (pureCount g p y σ) (planCount g p y (q p)) z (c σ (response-pure g p y R)))))
+
+  -- the shown move of a set is its lowest-numbered best one
+  lowest-best : (p : Player) (h : ℕ) → h < g .sets → T (owns g p h) → LowestBest g q p h (listed (bestResponse g p (q (other p))) h)
+  unfolding moveWorth
+  lowest-best p h l o =
+      let y = q (other p) in
+      let some = R .set-moves h l .0 in
+      subst (LowestBest g q p h) (sym (response-move g p y h l o))
+      (record {
+        best = λ k u. best-move g p y h k some u;
+        lowest = λ k u. lower-move g p y h k some u;
+      })
+
+  -- the best response gains exactly the stated gain
+  exact-gain : (p : Player) → Equal (record { count = gain g q p; base = valueBase g q }) (minus (pureEarnings g p (q (other p)) (listed (bestResponse g p (q (other p))))) (planEarnings g p (q (other p)) (q p)))
+  unfolding gain scaledBest pureEarnings planEarnings
+  exact-gain p =
+      let d = q p .denominator in
+      let y = q (other p) in
+      let c = planCount g p y (q p) in
+      subst (λ (v : ℤ). Equal (record { count = pos d *ℤ bestCount g p y -ℤ v; base = valueBase g q }) (minus (record { count = pureCount g p y (listed (bestResponse g p y)); base = againstBase g p y }) (record { count = c; base = d * againstBase g p y }))) (own-count g q p)
+      (subst (λ (a : ℤ). Equal (record { count = pos d *ℤ bestCount g p y -ℤ c; base = valueBase g q }) (minus (record { count = a; base = againstBase g p y }) (record { count = c; base = d * againstBase g p y }))) (sym (response-earns g p y R))
+      (difference d (againstBase g p y) (valueBase g q) (bestCount g p y) c (bases-agree g q p)))
+
+  -- what the best response of a player who can gain says
+  deviating : (p : Player) → T (ltZ (pos 0) (gain g q p)) → (p ≡ two → NoProfitableDeviation g q one) → Deviates g q p (gain g q p) (bestResponse g p (q (other p)))
+  unfolding pureEarnings mixedEarnings IsMixed
+  deviating p t f =
+      let y = q (other p) in
+      let σ = listed (bestResponse g p y) in
+      let earns : (z : ℤ) → z ≤ℤ bestCount g p y → z ≤ℤ pureCount g p y σ = λ z h. subst (λ (k : ℤ). z ≤ℤ k) (sym (response-earns g p y R)) h in
+      record {
+        named = f;
+        everySet = response-sets g p y;
+        pure = response-pure g p y R;
+        worthiest = lowest-best p;
+        exact = exact-gain p;
+        above = ltZ-yes t;
+        best = λ τ legal. scale-mono (againstBase g p y) (earns (pureCount g p y τ) (pure-at-most g R p y τ legal));
+        bestMixed = λ μ legal.
+            mixture-at-most (totalWeight μ) (againstBase g p y) (mixedCount g p y μ) (pureCount g p y σ)
+            (subst (λ (k : ℤ). mixedCount g p y μ ≤ℤ (pos (totalWeight μ) *ℤ k)) (sym (response-earns g p y R)) (mixed-at-most g R p y μ (legal .0)));
+      }
+
+  module _ (root : 0 < g .rootWeight) (some : (p : Player) → 0 < q p .denominator) where
+    -- every base is above 0
+    against-positive : (p : Player) → 0 < againstBase g p (q (other p))
+    unfolding againstBase
+    against-positive p = NatL.mul-pos root (some (other p))
+
+    bases-positive : BasesPositive g q
+    unfolding pureEarnings planEarnings mixedEarnings IsMixed
+    bases-positive = record {
+      values = subst (λ (k : ℕ). 0 < k) (bases-agree g q one) (NatL.mul-pos (some one) (against-positive one));
+      pures = λ p σ. against-positive p;
+      plans = λ p. NatL.mul-pos (some p) (against-positive p);
+      mixed = λ p μ legal. NatL.mul-pos (legal .1) (against-positive p);
+    }
+
+    -- what an answer says, if it is a deviation
+    abbrev Means : Verdict → Type 0
+    Means equilibrium = Unit {0}
+    Means (deviation p z l) = Deviates g q p z l
+
+    -- the answer, by which player can gain
+    pub judged : Judged g q
+    unfolding verdict deviates
+    judged = record {
+      accepts = (yes-means, means-yes);
+      shows = λ p z l e. subst Means e shown;
+      bases = bases-positive;
+    }
+      where
+        a : Bool
+        a = ltZ (pos 0) (gain g q one)
+
+        b : Bool
+        b = ltZ (pos 0) (gain g q two)
+
+        second : Verdict
+        second = cond b (deviates g q two) equilibrium
+
+        shown : Means (cond a (deviates g q one) second)
+        shown =
+            elim (dec a) [
+              | yes t ↦ subst Means (sym (cond-yes a (deviates g q one) second t)) (deviating one t (λ e. absurd (one≢two e)))
+              | no n ↦ subst Means (sym (cond-no a (deviates g q one) second n))
+                  (elim (dec b) [
+                    | yes t ↦ subst Means (sym (cond-yes b (deviates g q two) equilibrium t)) (deviating two t (λ e. content one n))
+                    | no m ↦ subst Means (sym (cond-no b (deviates g q two) equilibrium m)) tt
+                  ])
+            ]
+
+        yes-means : cond a (deviates g q one) second ≡ equilibrium → NoProfitableDeviation g q one × NoProfitableDeviation g q two
+        yes-means e = (
+          content one (λ t. deviation≢equilibrium one (gain g q one) (bestResponse g one (q two)) (sym (cond-yes a (deviates g q one) second t) ∙ e)),
+          content two (λ t. elim (dec a) [
+            | yes u ↦ deviation≢equilibrium one (gain g q one) (bestResponse g one (q two)) (sym (cond-yes a (deviates g q one) second u) ∙ e)
+            | no n ↦ deviation≢equilibrium two (gain g q two) (bestResponse g two (q one)) (sym (cond-yes b (deviates g q two) equilibrium t) ∙ sym (cond-no a (deviates g q one) second n) ∙ e)
+          ]),
+        )
+
+        means-yes : NoProfitableDeviation g q one × NoProfitableDeviation g q two → cond a (deviates g q one) second ≡ equilibrium
+        means-yes c =
+            cond-no a (deviates g q one) second (λ t. gainful one (against-positive one) t (c .0))
+            ∙ cond-no b (deviates g q two) equilibrium (λ t. gainful two (against-positive two) t (c .1))
+
+-- demand 3, for every accepted game and every plan pair that fits it
+pub demand3 : Demand3
+demand3 game plan accepted fits =
+    let R = game-rules game accepted in
+    let P = plan-rules game plan fits in
+    judged (gameOf game) R (planPairOf (gameOf game) plan) (P .fit) (R .some-weight) (P .denominators)

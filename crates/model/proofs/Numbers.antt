@@ -1,0 +1,123 @@
+-- The numbers of a player's sequences: below their count, and no two the same. All sets' moves are fewer than the nodes.
+use Prim.Native.Nat.{ℕ, suc, _+_, _≤_, _<_}
+use mathlib.Core.Path.{_≡_, refl, sym, ap, _∙_}
+use mathlib.Core.Logic.{_↔_}
+use mathlib.Core.Bool.{not, cond}
+use native.Mathlib.Omega.{arith}
+use native.Mathlib.Decide.{ℕ-discrete, decLt}
+use lib.Dec.{T, eqb, eqb→eq, ltb, lt→ltb, T-not}
+use Rattle.algebra.specs.Bounded.{countTo}
+use Rattle.algebra.proofs.Tests.{cond-yes, cond-no}
+use Rattle.algebra.proofs.Counts.{only, only-most, only-swap, count-suc, count-cong, count-le, count-zero, count-ones, count-plus, count-swap, count-less, count-one, count-pick, count-key, count-split}
+use Rattle.model.specs.Game.{Game, Player, one, two, samePlayer, owns, nodeMoves, movesBefore}
+use Rattle.model.specs.Sequences.{Sequence, extended, ownSequence, firstNode, leading, moveNumber, sequenceNumber, sequenceCount}
+use Rattle.model.specs.Table.{ownNumber}
+use Rattle.model.specs.Demand1.{GameRules}
+use Rattle.model.proofs.Sequences.{number-empty, number-extended}
+use Rattle.model.proofs.Tree.{IsSequence, empty, after, parent-in, first-in, first-set, own-sequence, children}
+
+module _ (g : Game) (p : Player) where
+  -- the moves of a set of p's come before those of a later set
+  pub moves-block : (h k : ℕ) → h < k → T (owns g p h) → movesBefore g p h + g .setMoves h ≤ movesBefore g p k
+  unfolding movesBefore
+  moves-block h k l o =
+      let c : ℕ → ℕ = λ k. cond (owns g p k) (g .setMoves k) 0 in
+      omega (arith, count-less k (suc h) c l, count-suc h c, cond-yes (owns g p h) (g .setMoves h) 0 o)
+
+  -- moves of p's with the same number are the same
+  pub number-move : (h m k n : ℕ) → T (owns g p h) → T (owns g p k) → m < g .setMoves h → n < g .setMoves k → moveNumber g p (h, m) ≡ moveNumber g p (k, n) → (h ≡ k) × (m ≡ n)
+  unfolding moveNumber
+  number-move h m k n oh ok lm ln e = let s = set in (s, omega (arith, ap (movesBefore g p) s))
+    where
+      set : h ≡ k
+      set =
+          elim (ℕ-discrete h k) [
+            | yes d ↦ d
+            | no d ↦ elim (decLt h k) [
+              | yes l ↦ absurd (omega (arith, moves-block h k l oh))
+              | no l ↦ absurd (omega (arith, moves-block k h (omega arith) ok))
+            ]
+          ]
+
+  -- a move's number is not 0
+  pub number-positive : (h m : ℕ) → ¬ (moveNumber g p (h, m) ≡ 0)
+  unfolding moveNumber
+  number-positive h m e = omega arith
+
+  -- every sequence's number is below their count
+  pub number-below : (s : Sequence) → IsSequence g p s → sequenceNumber g p s < sequenceCount g p
+  unfolding sequenceCount moveNumber
+  number-below s empty = omega (arith, number-empty g p)
+  number-below s (after {h = h} {m = m} l o b) = omega (arith, number-extended g p (leading g h) h m, moves-block h (g .sets) l o)
+
+  -- two sequences with the same number are the same
+  pub number-same : (s t : Sequence) → IsSequence g p s → IsSequence g p t → sequenceNumber g p s ≡ sequenceNumber g p t → s ≡ t
+  number-same s t empty empty e = refl
+  number-same s t empty (after {h = k} {m = n} l o b) e = absurd (number-positive k n (sym (number-extended g p (leading g k) k n) ∙ sym e ∙ number-empty g p))
+  number-same s t (after {h = h} {m = m} l o b) empty e = absurd (number-positive h m (sym (number-extended g p (leading g h) h m) ∙ e ∙ number-empty g p))
+  number-same s t (after {h = h} {m = m} l o b) (after {h = k} {m = n} l′ o′ b′) e =
+      let d = number-move h m k n o o′ b b′ (sym (number-extended g p (leading g h) h m) ∙ e ∙ number-extended g p (leading g k) k n) in
+      λ i. extended (leading g (d .0 i)) (d .0 i) (d .1 i)
+
+module _ (g : Game) (R : GameRules g) where
+  -- two nodes have the same own sequence exactly when its number is the same
+  pub by-number : (p : Player) (n m : ℕ) → n < g .nodes → m < g .nodes → (ownSequence g p n ≡ ownSequence g p m) ↔ (ownNumber g p n ≡ ownNumber g p m)
+  unfolding ownNumber
+  by-number p n m l k = (λ e. ap (sequenceNumber g p) e, λ e. number-same g p (ownSequence g p n) (ownSequence g p m) (own-sequence g R p n l) (own-sequence g R p m k) e)
+
+  -- the number of an own sequence is below their count
+  pub own-number-below : (p : Player) (n : ℕ) → n < g .nodes → ownNumber g p n < sequenceCount g p
+  unfolding ownNumber
+  own-number-below p n l = number-below g p (ownSequence g p n) (own-sequence g R p n l)
+
+  -- every node but the root stands at one move
+  nodes-at-moves : countTo (g .nodes) (nodeMoves g) + 1 ≡ g .nodes
+  nodes-at-moves =
+      let N = g .nodes in
+      let hung = countTo N (λ c. only (ltb 0 c) 1) in
+      let a : hung ≡ countTo N (nodeMoves g) =
+      count-key N N (g .parent) (λ c. only (ltb 0 c) 1) (parent-in g R)
+      ∙ count-cong N _ _ (λ n l. count-cong N _ _ (λ c v. only-swap (eqb (g .parent c) n) (ltb 0 c) 1) ∙ children g R n l (λ m. 1) ∙ count-ones (nodeMoves g n)) in
+      let b = count-split N (ltb 0) (λ n. 1) in
+      let c : countTo N (λ n. only (not (ltb 0 n)) 1) ≡ 1 = count-one N (λ n. only (not (ltb 0 n)) 1) 0 (R .some-node) (λ i l d. cond-no (not (ltb 0 i)) 1 0 (λ t. T-not (ltb 0 i) t (lt→ltb 0 i (omega arith)))) in
+      omega (arith, a, b, c, count-ones N)
+
+  -- at most one set begins at a node
+  sets-at-node : (n : ℕ) → countTo (g .sets) (λ h. only (eqb (firstNode g h) n) (nodeMoves g n)) ≤ nodeMoves g n
+  sets-at-node n =
+      let f : ℕ → ℕ = λ h. only (eqb (firstNode g h) n) (nodeMoves g n) in
+      elim (decLt (g .nodeSet n) (g .sets)) [
+        | yes l ↦ omega (arith, count-one (g .sets) f (g .nodeSet n) l elsewhere, only-most (eqb (firstNode g (g .nodeSet n)) n) (nodeMoves g n))
+        | no l ↦ omega (arith, count-zero (g .sets) f (λ h v. elsewhere h v (λ e. omega arith)))
+      ]
+    where
+      elsewhere : (h : ℕ) → h < g .sets → ¬ (h ≡ g .nodeSet n) → only (eqb (firstNode g h) n) (nodeMoves g n) ≡ 0
+      elsewhere h v d = cond-no (eqb (firstNode g h) n) (nodeMoves g n) 0 (λ t. d (sym (first-set g R h v .1) ∙ ap (g .nodeSet) (eqb→eq (firstNode g h) n t)))
+
+  -- the moves of all sets together are at most N - 1
+  pub moves-few : countTo (g .sets) (g .setMoves) < g .nodes
+  moves-few =
+      let N = g .nodes in
+      let a : countTo (g .sets) (g .setMoves) ≡ countTo N (λ n. countTo (g .sets) (λ h. only (eqb (firstNode g h) n) (nodeMoves g n))) =
+      count-cong (g .sets) _ _ (λ h l. sym (count-pick N (firstNode g h) (nodeMoves g) (first-in g R h l .1) ∙ first-set g R h l .2))
+      ∙ count-swap (g .sets) N (λ h n. only (eqb (firstNode g h) n) (nodeMoves g n)) in
+      omega (arith, a, count-le N _ (nodeMoves g) (λ n l. sets-at-node n), nodes-at-moves)
+
+  -- each move is one player's
+  split-moves : (k : ℕ) → movesBefore g one k + movesBefore g two k ≡ countTo k (g .setMoves)
+  unfolding movesBefore owns
+  split-moves k = count-plus k _ _ ∙ count-cong k _ _ (λ h l. go (g .setPlayer h) (g .setMoves h))
+    where
+      go : (r : Player) (m : ℕ) → cond (samePlayer one r) m 0 + cond (samePlayer two r) m 0 ≡ m
+      go one m = omega arith
+      go two m = omega arith
+
+  -- so a plan has fewer weights than the game has nodes
+  pub plan-moves-few : movesBefore g one (g .sets) + movesBefore g two (g .sets) < g .nodes
+  plan-moves-few = omega (arith, split-moves (g .sets), moves-few)
+
+  -- and each player at most as many sequences
+  pub sequences-few : (p : Player) → sequenceCount g p ≤ g .nodes
+  unfolding sequenceCount
+  sequences-few one = omega (arith, plan-moves-few)
+  sequences-few two = omega (arith, plan-moves-few)

@@ -1,0 +1,122 @@
+-- Document 01, "The desk program": what it prints for a pair of files, as bytes.
+use Prim.Native.Nat.{ℕ, zero, suc, _+_, _*_, _/_, _%_}
+use Prim.Native.String as String
+use Prim.Native.String.{String}
+use Prim.Native.Char.{code}
+use mathlib.Core.Bool.{Bool, _&&_, not, cond}
+use mathlib.Core.List.{List, [], _∷_, _++_, flatMap}
+use lib.Dec.{eqb, ltb}
+use lib.IntN.{ℤ, natAbs}
+use lib.Signed.{nonNeg}
+use Rattle.model.specs.Game.{Game, gameOf, Player, one, two, other}
+use Rattle.model.specs.Sequences.{Move}
+use Rattle.model.specs.Plan.{PlanPair, planPairOf}
+use Rattle.model.specs.PlanChecks.{pairRefusal}
+use Rattle.model.specs.Earnings.{Fraction, value, valueBase}
+use Rattle.model.specs.BestResponse.{bestValue}
+use Rattle.model.specs.Verdict.{Verdict, equilibrium, deviation, verdict}
+
+-- a text's bytes; all characters here are ASCII
+unfoldable pub ascii : String → List ℕ
+ascii String.[] = []
+ascii (String._∷_ c s) = code c ∷ ascii s
+
+-- the decimal digits of n, in at most `steps` of them; suc n are enough
+unfoldable pub digitsIn : (steps n : ℕ) → List ℕ
+digitsIn zero n = []
+digitsIn (suc steps) n =
+    let before = digitsIn steps (n / 10) in
+    cond (ltb n 10) [] before ++ (48 + n % 10) ∷ []
+
+-- a whole number in base ten
+unfoldable pub decimal : ℕ → List ℕ
+decimal n = digitsIn (suc n) n
+
+-- a signed number in base ten: `-` where `negative` says so, then the digits of its size
+unfoldable pub signedDecimal : (negative : Bool) → (size : ℕ) → List ℕ
+signedDecimal negative size = cond negative (ascii "-") [] ++ decimal size
+
+-- an amount in thousandths "cut towards zero", as a size
+unfoldable pub thousandths : Fraction → ℕ
+thousandths a = natAbs (a .count) * 1000 / a .base
+
+-- the last three digits of a size in thousandths
+unfoldable pub lastThree : ℕ → List ℕ
+lastThree t = (48 + t / 100 % 10) ∷ (48 + t / 10 % 10) ∷ (48 + t % 10) ∷ []
+
+-- "`-` only where a shown digit is not 0"
+unfoldable pub showsMinus : Fraction → Bool
+showsMinus a = not (nonNeg (a .count)) && ltb 0 (thousandths a)
+
+-- "Amounts are divided out and shown in thousandths cut towards zero"
+unfoldable pub amount : Fraction → List ℕ
+amount a = signedDecimal (showsMinus a) (thousandths a / 1000) ++ ascii "." ++ lastThree (thousandths a)
+
+-- "Every line ends with a line feed."
+unfoldable pub line : List ℕ → List ℕ
+line l = l ++ ascii "\n"
+
+abbrev pub playerNumber : Player → ℕ
+playerNumber one = 1
+playerNumber two = 2
+
+-- "one line per set of that player"
+unfoldable pub moveLine : Move → List ℕ
+moveLine x = line (ascii "set " ++ decimal (x .0) ++ ascii " move " ++ decimal (x .1))
+
+module _ (g : Game) (q : PlanPair) where
+  unfoldable pub valueLine : Player → List ℕ
+  valueLine p = line (ascii "value " ++ decimal (playerNumber p) ++ ascii " " ++ amount (value g q p))
+
+  unfoldable pub bestLine : Player → List ℕ
+  bestLine p = line (ascii "best " ++ decimal (playerNumber p) ++ ascii " " ++ amount (bestValue g p (q (other p))))
+
+  -- the gain over D0 × D1 × D2
+  unfoldable pub gainAmount : ℤ → Fraction
+  gainAmount z = record { count = z; base = valueBase g q }
+
+  -- "then `accepted`, or the deviation with its player, its gain and one line per set of that player, rising"
+  unfoldable pub verdictLines : Verdict → List ℕ
+  verdictLines equilibrium = line (ascii "accepted")
+  verdictLines (deviation p z moves) =
+      line (ascii "deviation player " ++ decimal (playerNumber p) ++ ascii " gain " ++ amount (gainAmount z))
+      ++ flatMap moveLine moves
+
+  -- "value 1, value 2, best 1, best 2, then .."
+  unfoldable pub report : List ℕ
+  report = valueLine one ++ valueLine two ++ bestLine one ++ bestLine two ++ verdictLines (verdict g q)
+
+-- "`refusal` and the number on one line"
+unfoldable pub refusalLine : ℕ → List ℕ
+refusalLine k = line (ascii "refusal " ++ decimal k)
+
+-- the report of two accepted files
+unfoldable pub reportOf : (game plan : List ℕ) → List ℕ
+reportOf game plan = report (gameOf game) (planPairOf (gameOf game) plan)
+
+-- what the program prints for the bytes of two files
+unfoldable pub printed : (game plan : List ℕ) → List ℕ
+printed game plan =
+    let k = pairRefusal game plan in
+    let accepted = reportOf game plan in
+    let refused = refusalLine k in
+    cond (eqb k 0) accepted refused
+
+-- A file in the working folder, as the program finds it.
+pub data Found : Type 0 where
+  unreadable : Found
+  holding : (bytes : List ℕ) → Found
+
+-- "an absent or unreadable file counting as empty"
+unfoldable pub contents : Found → List ℕ
+contents unreadable = []
+contents (holding bytes) = bytes
+
+-- "It reads `game.bin` and `plan.bin`" and prints
+unfoldable pub deskOutput : (game plan : Found) → List ℕ
+deskOutput game plan = printed (contents game) (contents plan)
+
+-- To unfold this is to unfold all of this file: for closed computation.
+unfoldable pub opened : Unit {0}
+unfolding ascii digitsIn decimal signedDecimal thousandths lastThree showsMinus amount line moveLine valueLine bestLine gainAmount verdictLines report refusalLine reportOf printed contents deskOutput flatMap
+opened = tt
