@@ -1,0 +1,74 @@
+// A file's bits: fields read from bytes, digits of numbers to be written, and what turns one number into another.
+ghost use mathlib.Core.Path.{_≡_};
+ghost use Prim.Native.Nat.{suc, _+_, _-_, _/_, _%_, _^_, _≤_, _<_};
+ghost use Rattle.model.specs.Bits.{bit, field, signed};
+
+// A byte as a number of 64 bits. A cast where the byte is read would ask for a proof that it fits.
+fn wide(x: u8) -> u64
+    ensures { λ r. ⌜ r ≡ x ⌝ }
+{
+    x as u64
+}
+
+// Bit `at` of the bytes, counted from the most significant bit of the first; 0 past their end.
+pub fn bit(bytes: &[u8], at: usize) -> u64
+    ensures { λ r. ⌜ (r ≡ bit (now (bytes .entry)) at) × (r < 2) ⌝ }
+{
+    let i = at / 8;
+    if i < bytes.len() {
+        let byte = wide(bytes[i]);
+        (byte >> (7 - at % 8)) % 2
+    } else {
+        0
+    }
+}
+
+// The number in the `width` bits from bit `at` on, most significant first; 0 for each bit past the end.
+// The place of the last bit, `at + width - 1`, has to be a `usize`.
+pub fn field(bytes: &[u8], at: usize, width: usize) -> u64
+    requires { ⌜ (width ≤ 64) × (at + width ≤ 2 ^ 64) ⌝ }
+    ensures { λ r. ⌜ (r ≡ field (now (bytes .entry)) at width) × (r < 2 ^ width) ⌝ }
+{
+    let mut value: u64 = 0;
+    let mut i: usize = 0;
+    while i < width {
+        value = 2 * value + bit(bytes, at + i);
+        i += 1;
+    }
+    value
+}
+
+// A field as an index: a `usize` has 64 bits.
+pub fn index(x: u64) -> usize
+    ensures { λ r. ⌜ r ≡ x ⌝ }
+{
+    x as usize
+}
+
+// 2 to the power `n`.
+pub fn power(n: usize) -> u64
+    requires { ⌜ n < 64 ⌝ }
+    ensures { λ r. ⌜ r ≡ 2 ^ n ⌝ }
+{
+    1u64 << n
+}
+
+// A field of 16 bits as two's complement: `x - 65536` in steps that each fit an `i16`.
+pub fn signed16(x: u64) -> i16
+    requires { ⌜ x < 2 ^ 16 ⌝ }
+    ensures { λ r. ⌜ r ≡ signed 16 x ⌝ }
+{
+    if x < 32768 {
+        x as i16
+    } else {
+        -1 - ((65535 - x) as i16)
+    }
+}
+
+// Bit `i` of the `width` bits of `n`, most significant first.
+pub fn digit(n: u64, width: usize, i: usize) -> u64
+    requires { ⌜ (i < width) × (width ≤ 64) ⌝ }
+    ensures { λ r. ⌜ r ≡ n / 2 ^ (width - suc i) % 2 ⌝ }
+{
+    (n >> (width - 1 - i)) % 2
+}

@@ -1,0 +1,15 @@
+pub mod Arrays
+pub mod Depths
+pub mod FirstNodes
+pub mod FirstSequences
+pub mod Headers
+pub mod Loops
+pub mod Masks
+pub mod Moves
+pub mod NodeTests
+pub mod Own
+pub mod Passes
+pub mod Payloads
+pub mod Recalls
+pub mod Rooted
+pub mod Weights

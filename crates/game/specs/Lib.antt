@@ -1,0 +1,5 @@
+pub mod Records
+pub mod Answers
+pub mod Children
+pub mod Sets
+pub mod Recall

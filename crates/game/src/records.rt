@@ -1,0 +1,163 @@
+// Where each field of a game file stands: nothing outside this file knows it.
+ghost use mathlib.Core.Path.{_≡_};
+ghost use Prim.Native.Nat.{_+_, _<_};
+ghost use Rattle.model.specs.Game.{gameOf, nodeAt, nodeMoves};
+ghost use Rattle.game.specs.Records.{headerOf, payloadOf, leafPayload, decisionPayload, chancePayload, noPayload, SetRead, NodeRead};
+use super::Header;
+use super::NodeRecord;
+use super::Payload;
+use super::SetEntry;
+
+impl Header {
+    pub const EDITION: u64 = 1;
+
+    // The header of a file.
+    pub fn read(bytes: &[u8]) -> Self
+        ensures { λ r. ⌜ r ≡ headerOf (now (bytes .entry)) ⌝ }
+    {
+        let sets = bits::index(bits::field(bytes, 16, 12));
+        Header {
+            edition: bits::field(bytes, 0, 4),
+            nodes: bits::index(bits::field(bytes, 4, 12)),
+            sets,
+            root_weight: bits::field(bytes, 28, 12),
+            records: 40 + 8 * sets,
+        }
+    }
+}
+
+impl SetEntry {
+    // The most moves of a set or of a chance node.
+    pub const MOVES: usize = 64;
+
+    // The entry of set `h`.
+    pub fn read(bytes: &[u8], h: usize) -> Self
+        requires { ⌜ h < 4096 ⌝ }
+        ensures { λ r. ⌜ SetRead (now (bytes .entry)) h r ⌝ }
+    {
+        let at = 40 + 8 * h;
+        SetEntry {
+            player: bits::field(bytes, at, 1),
+            moves: bits::index(bits::field(bytes, at + 1, 7)),
+        }
+    }
+}
+
+impl Payload {
+    pub const LEAF: u64 = 0;
+
+    pub const DECISION: u64 = 1;
+
+    pub const CHANCE: u64 = 2;
+
+    // What a leaf has.
+    fn leaf(payoff1: i16, payoff2: i16) -> Self
+        ensures { λ r. ⌜ r ≡ leafPayload payoff1 payoff2 ⌝ }
+    {
+        Payload {
+            set: 0,
+            moves: 0,
+            payoff1,
+            payoff2,
+            padding: 0,
+        }
+    }
+
+    // What a decision has.
+    fn decision(set: usize, padding: u64) -> Self
+        ensures { λ r. ⌜ r ≡ decisionPayload set padding ⌝ }
+    {
+        Payload {
+            set,
+            moves: 0,
+            payoff1: 0,
+            payoff2: 0,
+            padding,
+        }
+    }
+
+    // What a chance node has.
+    fn chance(moves: usize, padding: u64) -> Self
+        ensures { λ r. ⌜ r ≡ chancePayload moves padding ⌝ }
+    {
+        Payload {
+            set: 0,
+            moves,
+            payoff1: 0,
+            payoff2: 0,
+            padding,
+        }
+    }
+
+    // What a kind that does not exist has.
+    fn none() -> Self
+        ensures { λ r. ⌜ r ≡ noPayload ⌝ }
+    {
+        Payload {
+            set: 0,
+            moves: 0,
+            payoff1: 0,
+            payoff2: 0,
+            padding: 0,
+        }
+    }
+
+    // The payload that begins at bit `at`, by the node's kind.
+    fn read(bytes: &[u8], at: usize, kind: u64) -> Self
+        requires { ⌜ at < 1000000 ⌝ }
+        ensures { λ r. ⌜ r ≡ payloadOf (now (bytes .entry)) at kind ⌝ }
+    {
+        if kind == Payload::LEAF {
+            let payoff1 = bits::signed16(bits::field(bytes, at, 16));
+            let payoff2 = bits::signed16(bits::field(bytes, at + 16, 16));
+            return Payload::leaf(payoff1, payoff2);
+        }
+        if kind == Payload::DECISION {
+            let set = bits::index(bits::field(bytes, at, 12));
+            return Payload::decision(set, bits::field(bytes, at + 12, 20));
+        }
+        if kind == Payload::CHANCE {
+            let moves = bits::index(bits::field(bytes, at, 7));
+            return Payload::chance(moves, bits::field(bytes, at + 7, 25));
+        }
+        Payload::none()
+    }
+}
+
+impl NodeRecord {
+    pub const ROOT: usize = 0;
+    // The most nodes of a game, and the most moves of a path.
+    pub const NODES: usize = 4095;
+
+    pub const PATH: u64 = 255;
+
+    // The record of node `n`, where the records begin at bit `records`.
+    pub fn read(bytes: &[u8], records: usize, n: usize) -> Self
+        requires { ⌜ (records ≡ nodeAt (now bytes) 0) × (n < 4096) ⌝ }
+        ensures { λ r. ⌜ NodeRead (now (bytes .entry)) n r ⌝ }
+    {
+        let at = records + 64 * n;
+        let kind = bits::field(bytes, at, 2);
+        let payload = Payload::read(bytes, at + 32, kind);
+        NodeRecord {
+            kind,
+            parent: bits::index(bits::field(bytes, at + 2, 12)),
+            place: bits::index(bits::field(bytes, at + 14, 6)),
+            weight: bits::field(bytes, at + 20, 12),
+            payload,
+        }
+    }
+}
+
+// How many moves node `n` has: its set's, its own, or none.
+pub fn move_count(bytes: &[u8], records: usize, n: usize) -> usize
+    requires { ⌜ (records ≡ nodeAt (now bytes) 0) × (n < 4096) ⌝ }
+    ensures { λ r. ⌜ r ≡ nodeMoves (gameOf (now (bytes .entry))) n ⌝ }
+{
+    let node = NodeRecord::read(bytes, records, n);
+    if node.kind == Payload::DECISION {
+        let entry = SetEntry::read(bytes, node.payload.set);
+        return entry.moves;
+    }
+    node.payload.moves
+}
