@@ -1,8 +1,11 @@
 pub mod Arrays
+pub mod Columns
 pub mod Depths
+pub mod Fillings
 pub mod FirstNodes
 pub mod FirstSequences
 pub mod Headers
+pub mod Leading
 pub mod Loops
 pub mod Masks
 pub mod Moves

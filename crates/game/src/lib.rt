@@ -8,6 +8,8 @@ ghost use Rattle.game.specs.Answers.{checkedOf, answerFor};
 
 mod checks;
 mod children;
+pub mod fields;
+pub mod lookup;
 mod paths;
 pub mod recall;
 pub mod records;
@@ -50,6 +52,11 @@ pub struct NodeRecord {
 pub enum LastMove {
     Empty,
     Made(usize, usize),
+}
+
+// The own sequence that leads to a set, by its number.
+pub struct OwnSequence {
+    pub number: u64,
 }
 
 // The answer of one check.

@@ -1,0 +1,124 @@
+-- The call that gives all fields: its refusals, and its ten buffers afterwards.
+use Prim.Native.Nat.{ℕ, zero, suc, _≤_}
+use mathlib.Core.Path.{_≡_, refl, sym, ap, _∙_}
+use mathlib.Core.Bool.{Bool, true, false, _&&_, false≢true}
+use mathlib.Core.List.{List, [], _∷_, _++_}
+use native.Mathlib.Omega.{arith}
+use lib.ListN.{drop}
+use lib.Dec.{leb, leb→le}
+use Rattle.algebra.specs.Bounded.{listTo}
+use Rattle.algebra.proofs.Lists.{length-listTo}
+use Rattle.model.specs.Game.{gameOf, one, two}
+use Rattle.model.specs.Calls.{longEnough, afterCall, withRoom, gameFieldsChecks}
+use Rattle.model.specs.Writing.{GameFields, fieldsOf, payoffField}
+use Rattle.game.specs.declared.Header.{Header}
+use Rattle.game.specs.Answers.{over}
+use Rattle.game.specs.Columns.{setField, nodeField}
+use Rattle.game.proofs.Headers.{header-nodes, header-sets, header-weight}
+use Rattle.entry.specs.declared.FieldsAnswer.{FieldsAnswer}
+use Rattle.entry.specs.declared.FieldsAnswer.the-variants.{Given, Refused}
+use Rattle.entry.specs.GameFields.{fieldLists, fieldsRefusal, fieldsAnswer, buffersAfter, rooms, Room, filled}
+use Rattle.entry.proofs.Refusals.{Opened, Sent, game-first, last-fails, none-fails, refuses}
+
+-- a test of lengths that passes, and the others with it
+split : (n r : ℕ) {b : Bool} → (leb n r && b) ≡ true → (n ≤ r) × (b ≡ true)
+split n r {b} e = go (leb n r) refl e
+  where
+    go : (a : Bool) → leb n r ≡ a → (a && b) ≡ true → (n ≤ r) × (b ≡ true)
+    go true f e = (leb→le n r (rw f tt), e)
+    go false f e = absurd (false≢true e)
+
+-- a field over the first entries of its buffer is the buffer after the call
+over-after : {A : Type 0} (f : ℕ → A) (n : ℕ) (l : List A) → over f n l ≡ afterCall 0 (listTo n f) l
+unfolding over afterCall
+over-after f n l = ap (λ (k : ℕ). listTo n f ++ drop k l) (sym (length-listTo n f))
+
+module _ (bytes : List ℕ) (b : GameFields) where
+  -- the answer and the buffers afterwards
+  abbrev pub Result : FieldsAnswer → GameFields → Type 0
+  Result r a = (r ≡ fieldsAnswer (fieldsRefusal bytes b) bytes) × (a ≡ buffersAfter bytes b)
+
+  -- the buffers as they were
+  abbrev pub kept : GameFields
+  kept = fieldLists (b .setPlayers) (b .setMoves) (b .kinds) (b .parents) (b .moves) (b .weights) (b .nodeSets) (b .chanceMoves) (b .payoffs1) (b .payoffs2)
+
+  kept-is : {r : ℕ} → fieldsRefusal bytes b ≡ r → ¬ (r ≡ 0) → kept ≡ buffersAfter bytes b
+  unfolding buffersAfter afterCall
+  kept-is {r} e n = go r e n
+    where
+      go : (r : ℕ) → fieldsRefusal bytes b ≡ r → ¬ (r ≡ 0) → kept ≡ buffersAfter bytes b
+      go zero e n = absurd (n refl)
+      go (suc r) e n = rw e
+
+  filled-is : fieldsRefusal bytes b ≡ 0 → filled (gameOf bytes) b ≡ buffersAfter bytes b
+  unfolding buffersAfter fieldsOf setField nodeField
+  filled-is e =
+      let g = gameOf bytes in
+      rw (
+        e,
+        over-after (setField g 0) (g .sets) (b .setPlayers),
+        over-after (setField g 1) (g .sets) (b .setMoves),
+        over-after (nodeField g 0) (g .nodes) (b .kinds),
+        over-after (nodeField g 1) (g .nodes) (b .parents),
+        over-after (nodeField g 2) (g .nodes) (b .moves),
+        over-after (nodeField g 3) (g .nodes) (b .weights),
+        over-after (nodeField g 4) (g .nodes) (b .nodeSets),
+        over-after (nodeField g 5) (g .nodes) (b .chanceMoves),
+        over-after (payoffField g one) (g .nodes) (b .payoffs1),
+        over-after (payoffField g two) (g .nodes) (b .payoffs2),
+      )
+
+  -- the game's own refusal
+  pub file-refused : {r : ℕ} → Sent bytes r → Result (Refused r) kept
+  unfolding fieldsRefusal gameFieldsChecks withRoom
+  file-refused s = let e = game-first _ _ _ _ s in (refuses (λ k. fieldsAnswer k bytes) Refused (λ k. refl) e (s .some), kept-is e (s .some))
+
+  -- whether each buffer is long enough for h sets and n nodes
+  abbrev pub enough : (h n : ℕ) → Bool
+  enough h n = longEnough (h ∷ h ∷ n ∷ n ∷ n ∷ n ∷ n ∷ n ∷ n ∷ n ∷ []) (rooms b)
+
+  enough-is : (x : Header) → Opened bytes x → enough (x .sets) (x .nodes) ≡ enough (gameOf bytes .sets) (gameOf bytes .nodes)
+  enough-is x o = rw (header-nodes x bytes (o .header), header-sets x bytes (o .header))
+
+  -- a buffer too short
+  pub no-room : (x : Header) → Opened bytes x → enough (x .sets) (x .nodes) ≡ false → Result (Refused 18) kept
+  unfolding fieldsRefusal gameFieldsChecks withRoom
+  no-room x o f =
+      let e = last-fails _ _ _ _ (o .none) (sym (enough-is x o) ∙ f) in
+      (refuses (λ k. fieldsAnswer k bytes) Refused (λ k. refl) e (λ z. omega arith), kept-is e (λ z. omega arith))
+
+  -- every buffer has its room
+  pub has-room : (h n : ℕ) → enough h n ≡ true → Room h n b
+  has-room h n e =
+      let t0 = split _ _ e in
+      let t1 = split _ _ (t0 .1) in
+      let t2 = split _ _ (t1 .1) in
+      let t3 = split _ _ (t2 .1) in
+      let t4 = split _ _ (t3 .1) in
+      let t5 = split _ _ (t4 .1) in
+      let t6 = split _ _ (t5 .1) in
+      let t7 = split _ _ (t6 .1) in
+      let t8 = split _ _ (t7 .1) in
+      let t9 = split _ _ (t8 .1) in
+      record {
+        setPlayers = t0 .0;
+        setMoves = t1 .0;
+        kinds = t2 .0;
+        parents = t3 .0;
+        moves = t4 .0;
+        weights = t5 .0;
+        nodeSets = t6 .0;
+        chanceMoves = t7 .0;
+        payoffs1 = t8 .0;
+        payoffs2 = t9 .0;
+      }
+
+  free : (x : Header) → Opened bytes x → enough (x .sets) (x .nodes) ≡ true → fieldsRefusal bytes b ≡ 0
+  unfolding fieldsRefusal gameFieldsChecks withRoom
+  free x o t = none-fails _ _ _ _ (o .none) (sym (enough-is x o) ∙ t)
+
+  -- all fields given
+  pub all-given : (x : Header) {a : GameFields} → Opened bytes x → enough (x .sets) (x .nodes) ≡ true → a ≡ filled (gameOf bytes) b → Result (Given (x .nodes) (x .sets) (x .«root_weight»)) a
+  all-given x o t f =
+      let e = free x o t in
+      (rw (e, header-nodes x bytes (o .header), header-sets x bytes (o .header), header-weight x bytes (o .header)), f ∙ filled-is e)

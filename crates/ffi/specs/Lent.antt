@@ -1,0 +1,7 @@
+-- What is lent for a result, after a call.
+use Prim.Native.Nat.{ℕ, zero, suc}
+
+-- a number: the result where there is no refusal (0), and else what it was
+abbrev pub numberAfter : (refusal result before : ℕ) → ℕ
+numberAfter zero result before = result
+numberAfter (suc k) result before = before

@@ -1,0 +1,33 @@
+// The own sequence that leads to a set.
+ghost use mathlib.Core.Path.{_≡_};
+ghost use Prim.Native.Nat.{_<_};
+ghost use Rattle.model.specs.Game.{gameOf};
+ghost use Rattle.model.specs.Sequences.{leading, sequenceNumber};
+ghost use Rattle.model.specs.Demand1.{GameRules};
+ghost use Rattle.game.specs.Answers.{Framed};
+use super::OwnSequence;
+use super::SetEntry;
+use super::recall;
+use super::sets;
+
+// The own sequence that leads to set `h` of an accepted game.
+pub fn own_sequence(
+    bytes: &[u8],
+    records: usize,
+    nodes: usize,
+    sets: usize,
+    h: usize,
+) -> OwnSequence
+    requires { ⌜ Framed (now bytes) records nodes × GameRules (gameOf (now bytes)) × (sets ≡ gameOf (now bytes) .sets) × (h < sets) ⌝ }
+    ensures { λ r. ⌜ r .number ≡ sequenceNumber (gameOf (now (bytes .entry))) (gameOf (now (bytes .entry)) .setPlayer h) (leading (gameOf (now (bytes .entry))) h) ⌝ }
+{
+    let mut starts = [0u64; 4095];
+    let mut first = [0u64; 4095];
+    sets::first_sequences(bytes, sets, &mut starts);
+    sets::first_nodes(bytes, records, nodes, sets, &mut first);
+    let entry = SetEntry::read(bytes, h);
+    let last = recall::last_own_move(bytes, records, entry.player, bits::index(first[h]));
+    OwnSequence {
+        number: recall::number(last, &starts),
+    }
+}

@@ -1,0 +1,28 @@
+-- `try_game::say_signs` ends at the column's end.
+use Prim.Native.Nat.{_-_}
+use lib.ListN.{length}
+use borrow.Author.Needs.{needs}
+use Rattle.try_game.proofs.say_signs.Statement.{statement}
+use Rattle.try_game.proofs.say_signs.Tie as tie
+
+abbrev Inv-loop : tie.InvT-loop
+Inv-loop name column at₀ at = Unit {0}
+
+abbrev μ-loop : tie.MeasureT-loop
+μ-loop name column at₀ at = length column - at
+
+pub say-signs-spec : {M : Type 1} → statement M
+say-signs-spec =
+    tie.close
+    (tie.spec
+    Inv-loop
+    μ-loop
+    (λ c κs. search needs)
+    (λ c. tt)
+    (λ c. search needs)
+    (λ c. search needs)
+    (λ c κs. search needs)
+    (λ c. search needs)
+    (λ c. search needs)
+    (λ c. tt)
+    (λ c. search needs))

@@ -1,0 +1,401 @@
+// Tries the entry points of game files: a line for each file that the list `cases` names, then every look-up in three of them.
+ghost use Prim.Native.Nat.{_≤_};
+ghost use lib.ListN.{length};
+ghost use Rattle.io.specs.Counts.{Counts};
+use entry::FieldsAnswer;
+use entry::GameAnswer;
+use entry::NodeAnswer;
+use entry::SequenceAnswer;
+use entry::SetAnswer;
+use entry::Stand;
+use libc::STDOUT_FILENO;
+
+// One more than the bytes of the longest legal file, so that a longer one is refused and not cut to fit.
+const ROOM: usize = 36861;
+
+// What a number is looked up as.
+enum Table {
+    Sets,
+    Nodes,
+}
+
+// How many sets and nodes a game has.
+struct Size {
+    sets: u64,
+    nodes: u64,
+}
+
+fn say(text: &[u8]) {
+    io::write_all(STDOUT_FILENO, text);
+}
+
+fn say_number(before: &[u8], number: u64) {
+    say(before);
+    io::print_decimal(STDOUT_FILENO, number);
+}
+
+fn say_payoff(payoff: i16) {
+    if payoff < 0 {
+        say_number(b" -", -(payoff as i64) as u64);
+    } else {
+        say_number(b" ", payoff as u64);
+    }
+}
+
+fn say_refusal(number: u64) {
+    say_number(b": refusal ", number);
+}
+
+// The file's bytes at the start of the buffer, and how many. A file that is not there is told from an empty one.
+fn load(name: &[u8], buffer: &mut [u8]) -> usize
+    ensures { λ r. ⌜ Counts r (now (buffer .exit)) ⌝ }
+{
+    let file = os::open_read(name);
+    if file < 0 {
+        say(b"absent ");
+        return 0;
+    }
+    let length = io::read_full(file, buffer);
+    libc::close(file);
+    length
+}
+
+fn say_game(answer: GameAnswer) {
+    match answer {
+        GameAnswer::Accepted {
+            nodes,
+            sets,
+            root_weight,
+        } => {
+            say_number(b": accepted ", nodes);
+            say_number(b" ", sets);
+            say_number(b" ", root_weight);
+        }
+        GameAnswer::Refused(number) => say_refusal(number),
+    }
+}
+
+fn say_set(answer: SetAnswer) {
+    match answer {
+        SetAnswer::Entry { player, moves } => {
+            say_number(b": player bit ", player);
+            say_number(b" moves ", moves);
+        }
+        SetAnswer::Refused(number) => say_refusal(number),
+    }
+}
+
+fn say_sequence(answer: SequenceAnswer) {
+    match answer {
+        SequenceAnswer::Sequence(own) => say_number(b": own sequence ", own.number),
+        SequenceAnswer::Refused(number) => say_refusal(number),
+    }
+}
+
+fn say_stand(stand: Stand) {
+    say_number(b" parent ", stand.parent);
+    say_number(b" move ", stand.place);
+    say_number(b" weight ", stand.weight);
+}
+
+fn say_node(answer: NodeAnswer) {
+    match answer {
+        NodeAnswer::Leaf {
+            stand,
+            payoff1,
+            payoff2,
+        } => {
+            say(b": leaf");
+            say_stand(stand);
+            say(b" payoffs");
+            say_payoff(payoff1);
+            say_payoff(payoff2);
+        }
+        NodeAnswer::Decision { stand, set } => {
+            say(b": decision");
+            say_stand(stand);
+            say_number(b" set ", set);
+        }
+        NodeAnswer::Chance { stand, moves } => {
+            say(b": chance");
+            say_stand(stand);
+            say_number(b" moves ", moves);
+        }
+        NodeAnswer::Refused(number) => say_refusal(number),
+    }
+}
+
+// The line of one case.
+fn try_case(name: &[u8]) {
+    let mut buffer = [0u8; ROOM];
+    let length = load(name, &mut buffer);
+    say(name);
+    say_game(entry::check_game(&buffer[..length]));
+    say(b"\n");
+}
+
+// The end of the line that begins at `start`.
+fn line_end(list: &[u8], start: usize) -> usize
+    requires { ⌜ start ≤ length (now list) ⌝ }
+    ensures { λ r. ⌜ (start ≤ r) × (r ≤ length (now (list .entry))) ⌝ }
+{
+    let mut end = start;
+    while end < list.len() {
+        if list[end] == b'\n' {
+            return end;
+        }
+        end += 1;
+    }
+    end
+}
+
+// The line of each case that the list names.
+fn try_cases(list: &[u8]) {
+    let mut start = 0;
+    while start < list.len() {
+        let end = line_end(list, start);
+        try_case(&list[start..end]);
+        if end == list.len() {
+            return;
+        }
+        start = end + 1;
+    }
+}
+
+// The line of one node, or the two of one set.
+fn look_up(game: &[u8], table: Table, number: u64) {
+    match table {
+        Table::Sets => {
+            say_number(b"set ", number);
+            say_set(entry::set_entry(game, number));
+            say_number(b"\nset ", number);
+            say_sequence(entry::own_sequence(game, number));
+        }
+        Table::Nodes => {
+            say_number(b"node ", number);
+            say_node(entry::node_record(game, number));
+        }
+    }
+    say(b"\n");
+}
+
+// Each number below the count, the count itself and the largest number of all.
+fn look_up_all(game: &[u8], table: Table, count: u64) {
+    let mut number = 0;
+    while number < count {
+        look_up(game, table, number);
+        number += 1;
+    }
+    look_up(game, table, count);
+    look_up(game, table, u64::MAX);
+}
+
+// A refused game counts as one without sets and nodes.
+fn measured(answer: GameAnswer) -> Size {
+    match answer {
+        GameAnswer::Accepted {
+            nodes,
+            sets,
+            root_weight: _,
+        } => Size { sets, nodes },
+        GameAnswer::Refused(_) => Size { sets: 0, nodes: 0 },
+    }
+}
+
+// The look-ups in one case.
+fn try_look_ups(name: &[u8]) {
+    let mut buffer = [0u8; ROOM];
+    let length = load(name, &mut buffer);
+    say(b"look-ups in ");
+    say(name);
+    say(b"\n");
+    let game = &buffer[..length];
+    let size = measured(entry::check_game(game));
+    look_up_all(game, Table::Sets, size.sets);
+    look_up_all(game, Table::Nodes, size.nodes);
+}
+
+fn say_fields(answer: FieldsAnswer) {
+    match answer {
+        FieldsAnswer::Given {
+            nodes,
+            sets,
+            root_weight,
+        } => {
+            say_number(b": given ", nodes);
+            say_number(b" ", sets);
+            say_number(b" ", root_weight);
+        }
+        FieldsAnswer::Refused(number) => say_refusal(number),
+    }
+}
+
+fn say_numbers(name: &[u8], column: &[u64]) {
+    say(name);
+    let mut at = 0;
+    while at < column.len() {
+        say_number(b" ", column[at]);
+        at += 1;
+    }
+}
+
+fn say_sign(payoff: i64) {
+    if payoff < 0 {
+        say(b" -");
+    } else if payoff == 0 {
+        say(b" 0");
+    } else {
+        say(b" +");
+    }
+}
+
+fn say_signs(name: &[u8], column: &[i64]) {
+    say(name);
+    let mut at = 0;
+    while at < column.len() {
+        say_sign(column[at]);
+        at += 1;
+    }
+}
+
+// What the buffers hold.
+fn say_columns(
+    set_players: &[u64],
+    set_moves: &[u64],
+    kinds: &[u64],
+    parents: &[u64],
+    moves: &[u64],
+    weights: &[u64],
+    node_sets: &[u64],
+    chance_moves: &[u64],
+    payoffs1: &[i64],
+    payoffs2: &[i64],
+) {
+    say_numbers(b" set-players", set_players);
+    say_numbers(b" set-moves", set_moves);
+    say_numbers(b" kinds", kinds);
+    say_numbers(b" parents", parents);
+    say_numbers(b" moves", moves);
+    say_numbers(b" weights", weights);
+    say_numbers(b" node-sets", node_sets);
+    say_numbers(b" chance-moves", chance_moves);
+    say_signs(b" payoffs1", payoffs1);
+    say_signs(b" payoffs2", payoffs2);
+    say(b"\n");
+}
+
+// The line of all fields: the answer, and what the buffers hold afterwards.
+fn try_fields(
+    game: &[u8],
+    set_players: &mut [u64],
+    set_moves: &mut [u64],
+    kinds: &mut [u64],
+    parents: &mut [u64],
+    moves: &mut [u64],
+    weights: &mut [u64],
+    node_sets: &mut [u64],
+    chance_moves: &mut [u64],
+    payoffs1: &mut [i64],
+    payoffs2: &mut [i64],
+) {
+    say(b"fields");
+    say_fields(entry::fields::game_fields(
+        game,
+        set_players,
+        set_moves,
+        kinds,
+        parents,
+        moves,
+        weights,
+        node_sets,
+        chance_moves,
+        payoffs1,
+        payoffs2,
+    ));
+    say_columns(
+        set_players,
+        set_moves,
+        kinds,
+        parents,
+        moves,
+        weights,
+        node_sets,
+        chance_moves,
+        payoffs1,
+        payoffs2,
+    );
+}
+
+// Buffers of 7s for a game of 3 sets and 9 nodes, with room for one more of each.
+fn try_room(game: &[u8]) {
+    let mut set_players = [7u64; 4];
+    let mut set_moves = [7u64; 4];
+    let mut kinds = [7u64; 10];
+    let mut parents = [7u64; 10];
+    let mut moves = [7u64; 10];
+    let mut weights = [7u64; 10];
+    let mut node_sets = [7u64; 10];
+    let mut chance_moves = [7u64; 10];
+    let mut payoffs1 = [7i64; 10];
+    let mut payoffs2 = [7i64; 10];
+    try_fields(
+        game,
+        &mut set_players,
+        &mut set_moves,
+        &mut kinds,
+        &mut parents,
+        &mut moves,
+        &mut weights,
+        &mut node_sets,
+        &mut chance_moves,
+        &mut payoffs1,
+        &mut payoffs2,
+    );
+}
+
+// The same, the last buffer one entry too short.
+fn try_short(game: &[u8]) {
+    let mut set_players = [7u64; 4];
+    let mut set_moves = [7u64; 4];
+    let mut kinds = [7u64; 10];
+    let mut parents = [7u64; 10];
+    let mut moves = [7u64; 10];
+    let mut weights = [7u64; 10];
+    let mut node_sets = [7u64; 10];
+    let mut chance_moves = [7u64; 10];
+    let mut payoffs1 = [7i64; 10];
+    let mut payoffs2 = [7i64; 8];
+    try_fields(
+        game,
+        &mut set_players,
+        &mut set_moves,
+        &mut kinds,
+        &mut parents,
+        &mut moves,
+        &mut weights,
+        &mut node_sets,
+        &mut chance_moves,
+        &mut payoffs1,
+        &mut payoffs2,
+    );
+}
+
+// All fields of one case, twice.
+fn try_all_fields(name: &[u8]) {
+    let mut buffer = [0u8; ROOM];
+    let length = load(name, &mut buffer);
+    let game = &buffer[..length];
+    try_room(game);
+    try_short(game);
+}
+
+fn main() {
+    let mut list = io::buffer();
+    let length = load(b"cases", &mut list);
+    try_cases(&list[..length]);
+    try_look_ups(b"00-study-game");
+    try_look_ups(b"00-chance-game");
+    try_look_ups(b"13-set-below-itself");
+    try_all_fields(b"00-study-game");
+    try_all_fields(b"13-set-below-itself");
+}

@@ -1,0 +1,6 @@
+//! The data files and the expected output of the test programs under `crates/`.
+//! The files come from the generator or are made here, the output comes from
+//! the reference implementation: nothing is taken from a run of a program.
+
+pub mod game;
+pub mod program;

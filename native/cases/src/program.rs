@@ -1,0 +1,62 @@
+//! What stands beside a test program's source: the files that it is run on and
+//! what it must write.
+
+use std::collections::BTreeMap;
+use std::fs;
+use std::io;
+use std::path::{Path, PathBuf};
+
+/// Contents by their path below the program's crate.
+pub type Files = BTreeMap<PathBuf, Vec<u8>>;
+
+pub struct Program {
+    name: &'static str,
+    files: Files,
+}
+
+impl Program {
+    /// A program with its data files by name and the text that it must write.
+    pub fn new(name: &'static str, data: Vec<(String, Vec<u8>)>, stdout: String) -> Self {
+        let data = data.into_iter();
+        let mut files: Files = data
+            .map(|(file, bytes)| (Path::new("data").join(file), bytes))
+            .collect();
+        files.insert(PathBuf::from("stdout"), stdout.into_bytes());
+        Program { name, files }
+    }
+
+    /// The files as they are to be committed.
+    pub fn files(&self) -> &Files {
+        &self.files
+    }
+
+    /// The files as they stand in the repository.
+    pub fn committed(&self) -> io::Result<Files> {
+        let folder = self.folder();
+        let mut paths = vec![PathBuf::from("stdout")];
+        for entry in fs::read_dir(folder.join("data"))? {
+            paths.push(Path::new("data").join(entry?.file_name()));
+        }
+        let read = |path: PathBuf| Ok((path.clone(), fs::read(folder.join(path))?));
+        paths.into_iter().map(read).collect()
+    }
+
+    /// Writes the files into the repository, in the place of those there.
+    pub fn write(&self) -> io::Result<()> {
+        let folder = self.folder();
+        let data = folder.join("data");
+        if data.exists() {
+            fs::remove_dir_all(&data)?;
+        }
+        fs::create_dir_all(&data)?;
+        for (path, bytes) in &self.files {
+            fs::write(folder.join(path), bytes)?;
+        }
+        Ok(())
+    }
+
+    fn folder(&self) -> PathBuf {
+        let crates = Path::new(env!("CARGO_MANIFEST_DIR")).join("../../crates");
+        crates.join(self.name)
+    }
+}

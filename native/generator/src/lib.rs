@@ -1,0 +1,17 @@
+//! Games, plans and damaged files to try a reader and a verdict with. All are
+//! drawn from a seeded generator, so each run gives the same ones.
+
+pub mod aim;
+pub mod damage;
+pub mod edit;
+pub mod games;
+pub mod named;
+pub mod near;
+pub mod plans;
+pub mod poker;
+pub mod rng;
+pub mod shape;
+pub mod tables;
+
+mod grouping;
+mod tree;
