@@ -23,11 +23,11 @@ pub fn own_sequence(
 {
     let mut starts = [0u64; 4095];
     let mut first = [0u64; 4095];
+    let mut own = [0u64; 4095];
     sets::first_sequences(bytes, sets, &mut starts);
     sets::first_nodes(bytes, records, nodes, sets, &mut first);
     let entry = SetEntry::read(bytes, h);
-    let last = recall::last_own_move(bytes, records, entry.player, bits::index(first[h]));
-    OwnSequence {
-        number: recall::number(last, &starts),
-    }
+    recall::own_numbers(bytes, records, nodes, entry.player, &starts, &mut own);
+    let node = bits::index(first[h]);
+    OwnSequence { number: own[node] }
 }

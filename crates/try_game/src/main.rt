@@ -326,8 +326,8 @@ fn try_fields(
     );
 }
 
-// Buffers of 7s for a game of 3 sets and 9 nodes, with room for one more of each.
-fn try_room(game: &[u8]) {
+// Buffers of 7s for a game of 3 sets and 9 nodes, with room for one more of each; the last is given.
+fn try_buffers(game: &[u8], payoffs2: &mut [i64]) {
     let mut set_players = [7u64; 4];
     let mut set_moves = [7u64; 4];
     let mut kinds = [7u64; 10];
@@ -337,7 +337,6 @@ fn try_room(game: &[u8]) {
     let mut node_sets = [7u64; 10];
     let mut chance_moves = [7u64; 10];
     let mut payoffs1 = [7i64; 10];
-    let mut payoffs2 = [7i64; 10];
     try_fields(
         game,
         &mut set_players,
@@ -349,44 +348,18 @@ fn try_room(game: &[u8]) {
         &mut node_sets,
         &mut chance_moves,
         &mut payoffs1,
-        &mut payoffs2,
+        payoffs2,
     );
 }
 
-// The same, the last buffer one entry too short.
-fn try_short(game: &[u8]) {
-    let mut set_players = [7u64; 4];
-    let mut set_moves = [7u64; 4];
-    let mut kinds = [7u64; 10];
-    let mut parents = [7u64; 10];
-    let mut moves = [7u64; 10];
-    let mut weights = [7u64; 10];
-    let mut node_sets = [7u64; 10];
-    let mut chance_moves = [7u64; 10];
-    let mut payoffs1 = [7i64; 10];
-    let mut payoffs2 = [7i64; 8];
-    try_fields(
-        game,
-        &mut set_players,
-        &mut set_moves,
-        &mut kinds,
-        &mut parents,
-        &mut moves,
-        &mut weights,
-        &mut node_sets,
-        &mut chance_moves,
-        &mut payoffs1,
-        &mut payoffs2,
-    );
-}
-
-// All fields of one case, twice.
+// All fields of one case: with room for them, and with the last buffer one entry too short.
 fn try_all_fields(name: &[u8]) {
     let mut buffer = [0u8; ROOM];
     let length = load(name, &mut buffer);
-    let game = &buffer[..length];
-    try_room(game);
-    try_short(game);
+    let mut room = [7i64; 10];
+    let mut short = [7i64; 8];
+    try_buffers(&buffer[..length], &mut room);
+    try_buffers(&buffer[..length], &mut short);
 }
 
 fn main() {

@@ -1,4 +1,4 @@
--- Both tables hold what they were filled with: the player's last own move to the set's first node gives the number.
+-- All tables hold what they were filled with: the number stored for the set's first node is that of the sequence that leads to it.
 use Prim.Native.Nat.{_<_}
 use mathlib.Core.Path.{_∙_}
 use native.Mathlib.Omega.{arith}
@@ -9,7 +9,6 @@ use Rattle.game.specs.Answers.{Holds}
 use Rattle.game.specs.Sets.{firstSequence}
 use Rattle.game.proofs.NodeTests.{few-sets}
 use Rattle.game.proofs.Rooted.{rules-rooted}
-use Rattle.game.proofs.Own.{last-numbered, last-number}
 use Rattle.game.proofs.Recalls.{filled}
 use Rattle.game.proofs.Leading.{first-found, leading-number}
 use Rattle.game.proofs.lookup.own_sequence.Statement.{statement}
@@ -28,29 +27,25 @@ starts c = filled _ (c .first-sequences .ensures) (omega (arith, few-sets (c .be
 first : (c : tie.After-first-nodes) → Holds (firstNode (gameOf (c .before .before .before .before .before .before .args .bytes .now))) (gameOf (c .before .before .before .before .before .before .args .bytes .now) .sets) (c .first-nodes .last .1 .1 .1 .1 .0)
 first c = filled _ (c .first-nodes .ensures) (omega (arith, few-sets (c .before .before .before .before .before .before .args .bytes .now)))
 
+own-numbers-requires : tie.Need-own-numbers-requires
+own-numbers-requires c κs =
+    let s = c .before .before .before .before .before .before .before .before .before .before in
+    let r = rules-rooted _ (s .pre .1) in
+    (s .pre .0, r, c .before .before .read .ensures .player-fits, omega (arith, s .pre .0 .nodes-is, r .few-nodes), starts (c .before .before .before .before .before .before .before))
+
 -- the set's first node is a node
-found : (c : tie.After-index) → c .index .result < gameOf (c .before .before .before .before .before .before .before .before .before .args .bytes .now) .nodes
-found c =
-    let s = c .before .before .before .before .before .before .before .before .before in
-    first-found _ (s .pre .1) (first (c .before .before .before)) _ (omega arith) (c .index .ensures)
+found : (c : tie.After-index) → c .index .result < gameOf (c .before .before .before .before .before .before .before .before .before .before .before .before .before .args .bytes .now) .nodes
+found c = first-found _ (c .before .before .before .before .before .before .before .before .before .before .before .before .before .pre .1) (first (c .before .before .before .before .before .before .before)) _ (omega arith) (c .index .ensures)
 
-last-own-move-requires : tie.Need-last-own-move-requires
-last-own-move-requires c κs =
-    let s = c .before .before .before .before .before .before .before .before .before in
-    (s .pre .0 .records-is, rules-rooted _ (s .pre .1), found c, c .before .read .ensures .player-fits)
-
-number-requires : tie.Need-number-requires
-number-requires c κs =
-    let s = c .before .before .before .before .before .before .before .before .before .before .before in
-    last-numbered _ (rules-rooted _ (s .pre .1)) _ (starts (c .before .before .before .before .before .before .before .before)) _ (found (c .before .before)) (c .before .last-own-move .ensures)
+-- it is below the arrays' length
+in-own : (c : tie.After-index) → c .index .result < 4095
+in-own c = omega (arith, found c, rules-rooted _ (c .before .before .before .before .before .before .before .before .before .before .before .before .before .pre .1) .few-nodes)
 
 returns : tie.Need-returns
 returns c =
-    let i = c .before .before .before in
-    let s = i .before .before .before .before .before .before .before .before .before in
-    c .number .ensures
-    ∙ last-number _ (rules-rooted _ (s .pre .1)) _ (starts (i .before .before .before .before .before .before)) _ (found i) (c .before .before .last-own-move .ensures)
-    ∙ leading-number _ (s .pre .1) (first (i .before .before .before)) _ (omega arith) (i .index .ensures) (i .before .read .ensures)
+    let s = c .before .before .before .before .before .before .before .before .before .before .before .before .before in
+    filled _ (c .before .before .own-numbers .ensures) (omega (arith, rules-rooted _ (s .pre .1) .few-nodes)) .at _ (found c)
+    ∙ leading-number _ (s .pre .1) (first (c .before .before .before .before .before .before .before)) _ (omega arith) (c .index .ensures) (c .before .before .before .before .before .read .ensures)
 
 pub own-sequence-spec : {M : Type 1} → statement M
 own-sequence-spec =
@@ -61,10 +56,12 @@ own-sequence-spec =
     (λ c. search needs)
     first-nodes-requires
     (λ c κs. omega (arith, few-sets (c .before .before .before .before .before .before .before .args .bytes .now)))
-    (λ c. omega (arith, few-sets (c .before .before .before .before .before .before .before .before .args .bytes .now)))
-    (λ c. omega (arith, few-sets (c .before .before .before .before .before .before .before .before .args .bytes .now)))
-    (λ c κs. search needs)
-    last-own-move-requires
     (λ c. search needs)
-    number-requires
+    (λ c. search needs)
+    own-numbers-requires
+    (λ c. omega (arith, few-sets (c .before .before .before .before .before .before .before .before .before .before .before .before .args .bytes .now)))
+    (λ c. omega (arith, few-sets (c .before .before .before .before .before .before .before .before .before .before .before .before .args .bytes .now)))
+    (λ c κs. search needs)
+    (λ c. omega (arith, in-own c))
+    in-own
     returns)
