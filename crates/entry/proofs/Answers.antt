@@ -15,8 +15,8 @@ use Rattle.game.specs.declared.OwnSequence.{OwnSequence}
 use Rattle.game.specs.declared.SetEntry.{SetEntry}
 use Rattle.game.specs.declared.NodeRecord.{NodeRecord}
 use Rattle.game.specs.Records.{SetRead, NodeRead}
-use Rattle.game.specs.Columns.{setField, nodeField}
-use Rattle.game.proofs.Columns.{set-number, node-number, node-payoff}
+use Rattle.game.specs.Columns.{playerField, setField, movesField}
+use Rattle.game.proofs.Columns.{set-player, node-set, node-moves, node-payoff1, node-payoff2}
 use Rattle.game.proofs.Headers.{header-nodes, header-sets, header-weight}
 use Rattle.entry.specs.declared.GameAnswer.the-variants.{Accepted}
 use Rattle.entry.specs.declared.NodeAnswer.the-variants.{Leaf, Chance}
@@ -32,8 +32,8 @@ game-is-read bytes h o = rw (o .none, header-nodes h bytes (o .header), header-s
 
 -- the entry of set i, where i is h
 pub set-is-read : (bytes : List ℕ) {i h : ℕ} (r : SetEntry) → SetRead bytes i r → i ≡ h → Entry (r .player) (r .moves) ≡ setAnswer 0 bytes h
-unfolding setField
-set-is-read bytes {i} r R e = rw (← e, set-number bytes i r R 0, set-number bytes i r R 1)
+unfolding playerField
+set-is-read bytes {i} r R e = rw (← e, set-player bytes i r R, R .moves)
 
 -- the own sequence that leads to set i, where i is h
 pub sequence-is-read : (bytes : List ℕ) {i h : ℕ} (r : OwnSequence) → r .number ≡ sequenceNumber (gameOf bytes) (gameOf bytes .setPlayer i) (leading (gameOf bytes) i) → i ≡ h → Sequence r ≡ sequenceAnswer 0 bytes h
@@ -58,7 +58,7 @@ only-its-own (suc (suc (suc k))) s a b h m l = absurd (omega arith)
 
 -- the record of node i, of a kind that exists, where i is n
 pub node-is-read : (bytes : List ℕ) {i n : ℕ} (r : NodeRecord) → NodeRead bytes i r → i ≡ n → gameOf bytes .kind n < 3 → nodeRead r ≡ nodeAnswer 0 bytes n
-unfolding payoffField nodeField isLeaf isDecision isChance
+unfolding payoffField setField movesField isLeaf isDecision isChance
 node-is-read bytes {i} {n} r R e l =
-    rw (R .kind, R .parent, R .place, R .weight, node-payoff bytes i r R 0, node-payoff bytes i r R 1, node-number bytes i r R 4, node-number bytes i r R 5, e)
+    rw (R .kind, R .parent, R .place, R .weight, node-payoff1 bytes i r R, node-payoff2 bytes i r R, node-set bytes i r R, node-moves bytes i r R, e)
     (only-its-own (gameOf bytes .kind n) _ _ _ _ _ l)

@@ -13,11 +13,11 @@ use Rattle.model.specs.Calls.{longEnough, afterCall, withRoom, gameFieldsChecks
 use Rattle.model.specs.Writing.{GameFields, fieldsOf, payoffField}
 use Rattle.game.specs.declared.Header.{Header}
 use Rattle.game.specs.Answers.{over}
-use Rattle.game.specs.Columns.{setField, nodeField}
+use Rattle.game.specs.Columns.{playerField, setField, movesField, fieldLists, Room, filled}
 use Rattle.game.proofs.Headers.{header-nodes, header-sets, header-weight}
 use Rattle.entry.specs.declared.FieldsAnswer.{FieldsAnswer}
 use Rattle.entry.specs.declared.FieldsAnswer.the-variants.{Given, Refused}
-use Rattle.entry.specs.GameFields.{fieldLists, fieldsRefusal, fieldsAnswer, buffersAfter, rooms, Room, filled}
+use Rattle.entry.specs.GameFields.{fieldsRefusal, fieldsAnswer, buffersAfter, rooms}
 use Rattle.entry.proofs.Refusals.{Opened, Sent, game-first, last-fails, none-fails, refuses}
 
 -- a test of lengths that passes, and the others with it
@@ -51,19 +51,19 @@ module _ (bytes : List ℕ) (b : GameFields) where
       go (suc r) e n = rw e
 
   filled-is : fieldsRefusal bytes b ≡ 0 → filled (gameOf bytes) b ≡ buffersAfter bytes b
-  unfolding buffersAfter fieldsOf setField nodeField
+  unfolding buffersAfter fieldsOf playerField setField movesField
   filled-is e =
       let g = gameOf bytes in
       rw (
         e,
-        over-after (setField g 0) (g .sets) (b .setPlayers),
-        over-after (setField g 1) (g .sets) (b .setMoves),
-        over-after (nodeField g 0) (g .nodes) (b .kinds),
-        over-after (nodeField g 1) (g .nodes) (b .parents),
-        over-after (nodeField g 2) (g .nodes) (b .moves),
-        over-after (nodeField g 3) (g .nodes) (b .weights),
-        over-after (nodeField g 4) (g .nodes) (b .nodeSets),
-        over-after (nodeField g 5) (g .nodes) (b .chanceMoves),
+        over-after (playerField g) (g .sets) (b .setPlayers),
+        over-after (g .setMoves) (g .sets) (b .setMoves),
+        over-after (g .kind) (g .nodes) (b .kinds),
+        over-after (g .parent) (g .nodes) (b .parents),
+        over-after (g .move) (g .nodes) (b .moves),
+        over-after (g .weight) (g .nodes) (b .weights),
+        over-after (setField g) (g .nodes) (b .nodeSets),
+        over-after (movesField g) (g .nodes) (b .chanceMoves),
         over-after (payoffField g one) (g .nodes) (b .payoffs1),
         over-after (payoffField g two) (g .nodes) (b .payoffs2),
       )
@@ -81,16 +81,16 @@ module _ (bytes : List ℕ) (b : GameFields) where
   enough-is x o = rw (header-nodes x bytes (o .header), header-sets x bytes (o .header))
 
   -- a buffer too short
-  pub no-room : (x : Header) → Opened bytes x → enough (x .sets) (x .nodes) ≡ false → Result (Refused 18) kept
+  pub no-room : (x : Header) → Opened bytes x → {r : Bool} → r ≡ enough (x .sets) (x .nodes) → r ≡ false → Result (Refused 18) kept
   unfolding fieldsRefusal gameFieldsChecks withRoom
-  no-room x o f =
-      let e = last-fails _ _ _ _ (o .none) (sym (enough-is x o) ∙ f) in
+  no-room x o r f =
+      let e = last-fails _ _ _ _ (o .none) (sym (enough-is x o) ∙ sym r ∙ f) in
       (refuses (λ k. fieldsAnswer k bytes) Refused (λ k. refl) e (λ z. omega arith), kept-is e (λ z. omega arith))
 
   -- every buffer has its room
-  pub has-room : (h n : ℕ) → enough h n ≡ true → Room h n b
-  has-room h n e =
-      let t0 = split _ _ e in
+  pub has-room : (h n : ℕ) {r : Bool} → r ≡ enough h n → r ≡ true → Room h n b
+  has-room h n r e =
+      let t0 = split _ _ (sym r ∙ e) in
       let t1 = split _ _ (t0 .1) in
       let t2 = split _ _ (t1 .1) in
       let t3 = split _ _ (t2 .1) in
@@ -118,7 +118,7 @@ module _ (bytes : List ℕ) (b : GameFields) where
   free x o t = none-fails _ _ _ _ (o .none) (sym (enough-is x o) ∙ t)
 
   -- all fields given
-  pub all-given : (x : Header) {a : GameFields} → Opened bytes x → enough (x .sets) (x .nodes) ≡ true → a ≡ filled (gameOf bytes) b → Result (Given (x .nodes) (x .sets) (x .«root_weight»)) a
-  all-given x o t f =
-      let e = free x o t in
+  pub all-given : (x : Header) (a : GameFields) → Opened bytes x → {r : Bool} → r ≡ enough (x .sets) (x .nodes) → r ≡ true → a ≡ filled (gameOf bytes) b → Result (Given (x .nodes) (x .sets) (x .«root_weight»)) a
+  all-given x a o r t f =
+      let e = free x o (sym r ∙ t) in
       (rw (e, header-nodes x bytes (o .header), header-sets x bytes (o .header), header-weight x bytes (o .header)), f ∙ filled-is e)

@@ -1,32 +1,14 @@
 -- The call that gives all fields of a game: its answer and its ten buffers, before and after.
-use Prim.Native.Nat.{ℕ, zero, suc, _≤_}
+use Prim.Native.Nat.{ℕ, zero, suc}
 use mathlib.Core.List.{List, [], _∷_}
 use lib.ListN.{length}
-use lib.IntN.{ℤ}
-use Rattle.model.specs.Game.{Game, gameOf, one, two}
+use Rattle.model.specs.Game.{gameOf}
 use Rattle.model.specs.Refusals.{firstFailing}
 use Rattle.model.specs.Calls.{afterCall, gameFieldsChecks}
-use Rattle.model.specs.Writing.{GameFields, fieldsOf, payoffField}
-use Rattle.game.specs.Answers.{over}
-use Rattle.game.specs.Columns.{setField, nodeField}
+use Rattle.model.specs.Writing.{GameFields, fieldsOf}
+use Rattle.game.specs.Columns.{fieldLists}
 use Rattle.entry.specs.declared.FieldsAnswer.{FieldsAnswer}
 use Rattle.entry.specs.declared.FieldsAnswer.the-variants.{Given, Refused}
-
--- ten lists, as the writer's record; D0 is no list
-abbrev pub fieldLists : (setPlayers setMoves kinds parents moves weights nodeSets chanceMoves : List ℕ) → (payoffs1 payoffs2 : List ℤ) → GameFields
-fieldLists setPlayers setMoves kinds parents moves weights nodeSets chanceMoves payoffs1 payoffs2 = record {
-  rootWeight = 0;
-  setPlayers = setPlayers;
-  setMoves = setMoves;
-  kinds = kinds;
-  parents = parents;
-  moves = moves;
-  weights = weights;
-  nodeSets = nodeSets;
-  chanceMoves = chanceMoves;
-  payoffs1 = payoffs1;
-  payoffs2 = payoffs2;
-}
 
 -- the lengths of the buffers
 abbrev pub rooms : GameFields → List ℕ
@@ -68,31 +50,3 @@ buffersAfter bytes b =
 abbrev pub fieldsAnswer : (refusal : ℕ) → List ℕ → FieldsAnswer
 fieldsAnswer zero bytes = Given (gameOf bytes .nodes) (gameOf bytes .sets) (gameOf bytes .rootWeight)
 fieldsAnswer (suc k) bytes = Refused (suc k)
-
--- every buffer has room for its field
-pub record Room (h n : ℕ) (b : GameFields) : Type 0 where
-  pub setPlayers : h ≤ length (b .setPlayers)
-  pub setMoves : h ≤ length (b .setMoves)
-  pub kinds : n ≤ length (b .kinds)
-  pub parents : n ≤ length (b .parents)
-  pub moves : n ≤ length (b .moves)
-  pub weights : n ≤ length (b .weights)
-  pub nodeSets : n ≤ length (b .nodeSets)
-  pub chanceMoves : n ≤ length (b .chanceMoves)
-  pub payoffs1 : n ≤ length (b .payoffs1)
-  pub payoffs2 : n ≤ length (b .payoffs2)
-
--- every buffer with its field over its first entries
-abbrev pub filled : Game → GameFields → GameFields
-filled g b =
-    fieldLists
-    (over (setField g 0) (g .sets) (b .setPlayers))
-    (over (setField g 1) (g .sets) (b .setMoves))
-    (over (nodeField g 0) (g .nodes) (b .kinds))
-    (over (nodeField g 1) (g .nodes) (b .parents))
-    (over (nodeField g 2) (g .nodes) (b .moves))
-    (over (nodeField g 3) (g .nodes) (b .weights))
-    (over (nodeField g 4) (g .nodes) (b .nodeSets))
-    (over (nodeField g 5) (g .nodes) (b .chanceMoves))
-    (over (payoffField g one) (g .nodes) (b .payoffs1))
-    (over (payoffField g two) (g .nodes) (b .payoffs2))

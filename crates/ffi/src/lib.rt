@@ -3,7 +3,8 @@
 ghost use mathlib.Core.Path.{_≡_};
 ghost use Rattle.model.specs.Game.{gameOf};
 ghost use Rattle.model.specs.GameChecks.{gameRefusal};
-ghost use Rattle.entry.specs.GameFields.{fieldLists, fieldsRefusal, buffersAfter};
+ghost use Rattle.game.specs.Columns.{fieldLists};
+ghost use Rattle.entry.specs.GameFields.{fieldsRefusal, buffersAfter};
 ghost use Rattle.ffi.specs.Lent.{numberAfter};
 
 // Checks a game file, and gives N, H and D0.

@@ -16,26 +16,8 @@ use Rattle.model.specs.Writing.{payoffField}
 use Rattle.game.specs.declared.SetEntry.{SetEntry}
 use Rattle.game.specs.declared.Payload.{Payload}
 use Rattle.game.specs.declared.NodeRecord.{NodeRecord}
-use Rattle.game.specs.Records.{SetRead, NodeRead, payloadOf, setNumber, nodeNumber, nodePayoff}
-use Rattle.game.specs.Columns.{setField, nodeField}
-
--- a number past the first of a set entry, and past the first five of a record
-pub later-number : (r : SetEntry) (which : ℕ) → ¬ (which ≡ 0) → r .moves ≡ setNumber r which
-later-number r zero d = absurd (d refl)
-later-number r (suc k) d = refl
-
-pub last-number : (r : NodeRecord) (which : ℕ) → 5 ≤ which → r .payload .moves ≡ nodeNumber r which
-last-number r zero l = absurd (omega arith)
-last-number r (suc zero) l = absurd (omega arith)
-last-number r (suc (suc zero)) l = absurd (omega arith)
-last-number r (suc (suc (suc zero))) l = absurd (omega arith)
-last-number r (suc (suc (suc (suc zero)))) l = absurd (omega arith)
-last-number r (suc (suc (suc (suc (suc k))))) l = refl
-
--- a player past the first
-pub later-payoff : (r : NodeRecord) (player : ℕ) → ¬ (player ≡ 0) → r .payload .payoff2 ≡ nodePayoff r player
-later-payoff r zero d = absurd (d refl)
-later-payoff r (suc k) d = refl
+use Rattle.game.specs.Records.{SetRead, NodeRead, payloadOf}
+use Rattle.game.specs.Columns.{playerField, setField, movesField}
 
 -- a number of 16 bits, read from its bits, fits 64, and is there the same number
 pub widens : {z : ℤ} → SFits w16 z → SFits w64 (toZ w16 (ofZ w16 z))
@@ -50,11 +32,10 @@ bit-player zero l = refl
 bit-player (suc zero) l = refl
 bit-player (suc (suc b)) l = absurd (omega arith)
 
--- the numbers of a set entry
-pub set-number : (bytes : List ℕ) (h : ℕ) (r : SetEntry) → SetRead bytes h r → (which : ℕ) → setNumber r which ≡ setField (gameOf bytes) which h
-unfolding setField gameOf
-set-number bytes h r e zero = bit-player (r .player) (omega (arith, e .player-fits)) ∙ ap (λ (b : ℕ). playerBit (playerOf b)) (e .player)
-set-number bytes h r e (suc k) = e .moves
+-- the player of a set entry
+pub set-player : (bytes : List ℕ) (h : ℕ) (r : SetEntry) → SetRead bytes h r → r .player ≡ playerField (gameOf bytes) h
+unfolding playerField gameOf
+set-player bytes h r e = bit-player (r .player) (omega (arith, e .player-fits)) ∙ ap (λ (b : ℕ). playerBit (playerOf b)) (e .player)
 
 -- a kind past 2 is none of those before
 other-kind : {A : Type 0} (k j : ℕ) (x y : A) → j ≤ 2 → y ≡ cond (eqb (suc (suc (suc k))) j) x y
@@ -75,16 +56,6 @@ payload-moves bytes n (suc zero) = refl
 payload-moves bytes n (suc (suc zero)) = refl
 payload-moves bytes n (suc (suc (suc k))) = other-kind k 2 _ 0 (omega arith)
 
--- the numbers of a node record
-pub node-number : (bytes : List ℕ) (n : ℕ) (r : NodeRecord) → NodeRead bytes n r → (which : ℕ) → nodeNumber r which ≡ nodeField (gameOf bytes) which n
-unfolding nodeField isDecision isChance
-node-number bytes n r e zero = e .kind
-node-number bytes n r e (suc zero) = e .parent
-node-number bytes n r e (suc (suc zero)) = e .place
-node-number bytes n r e (suc (suc (suc zero))) = e .weight
-node-number bytes n r e (suc (suc (suc (suc zero)))) = ap (λ (x : Payload). x .set) (e .payload) ∙ payload-set bytes n (gameOf bytes .kind n)
-node-number bytes n r e (suc (suc (suc (suc (suc k))))) = ap (λ (x : Payload). x .moves) (e .payload) ∙ payload-moves bytes n (gameOf bytes .kind n)
-
 -- a payload's payoffs, by kind
 first-payoff : (bytes : List ℕ) (n kind : ℕ) → payloadOf bytes (nodeAt bytes n + 32) kind .payoff1 ≡ cond (eqb kind 0) (gameOf bytes .payoff one n) (pos 0)
 unfolding payloadOf gameOf
@@ -102,8 +73,20 @@ second-payoff bytes n (suc zero) = refl
 second-payoff bytes n (suc (suc zero)) = refl
 second-payoff bytes n (suc (suc (suc k))) = other-kind k 0 _ (pos 0) (omega arith)
 
--- the payoffs of a node record
-pub node-payoff : (bytes : List ℕ) (n : ℕ) (r : NodeRecord) → NodeRead bytes n r → (player : ℕ) → nodePayoff r player ≡ payoffField (gameOf bytes) (playerOf player) n
-unfolding payoffField isLeaf
-node-payoff bytes n r e zero = ap (λ (x : Payload). x .payoff1) (e .payload) ∙ first-payoff bytes n (gameOf bytes .kind n)
-node-payoff bytes n r e (suc k) = ap (λ (x : Payload). x .payoff2) (e .payload) ∙ second-payoff bytes n (gameOf bytes .kind n)
+-- what a node record has by its kind
+module _ (bytes : List ℕ) (n : ℕ) (r : NodeRecord) (e : NodeRead bytes n r) where
+  pub node-set : r .payload .set ≡ setField (gameOf bytes) n
+  unfolding setField isDecision
+  node-set = ap (λ (x : Payload). x .set) (e .payload) ∙ payload-set bytes n (gameOf bytes .kind n)
+
+  pub node-moves : r .payload .moves ≡ movesField (gameOf bytes) n
+  unfolding movesField isChance
+  node-moves = ap (λ (x : Payload). x .moves) (e .payload) ∙ payload-moves bytes n (gameOf bytes .kind n)
+
+  pub node-payoff1 : r .payload .payoff1 ≡ payoffField (gameOf bytes) one n
+  unfolding payoffField isLeaf
+  node-payoff1 = ap (λ (x : Payload). x .payoff1) (e .payload) ∙ first-payoff bytes n (gameOf bytes .kind n)
+
+  pub node-payoff2 : r .payload .payoff2 ≡ payoffField (gameOf bytes) two n
+  unfolding payoffField isLeaf
+  node-payoff2 = ap (λ (x : Payload). x .payoff2) (e .payload) ∙ second-payoff bytes n (gameOf bytes .kind n)

@@ -73,22 +73,3 @@ wellFormed r = not (eqb (r .kind) 3) && eqb (r .payload .padding) 0
 -- the test of check 7 for one record
 unfoldable pub inRange : NodeRecord → (sets : ℕ) → Bool
 inRange r sets = implies (eqb (r .kind) 1) (ltb (r .payload .set) sets) && implies (eqb (r .kind) 2) (isMoveCount (r .payload .moves))
-
--- a number of a set entry: 0 its player, else its move count
-abbrev pub setNumber : SetEntry → (which : ℕ) → ℕ
-setNumber r zero = r .player
-setNumber r (suc k) = r .moves
-
--- a number of a record: 0 its kind, 1 its parent, 2 its move at the parent, 3 its weight, 4 its set, else its move count
-abbrev pub nodeNumber : NodeRecord → (which : ℕ) → ℕ
-nodeNumber r zero = r .kind
-nodeNumber r (suc zero) = r .parent
-nodeNumber r (suc (suc zero)) = r .place
-nodeNumber r (suc (suc (suc zero))) = r .weight
-nodeNumber r (suc (suc (suc (suc zero)))) = r .payload .set
-nodeNumber r (suc (suc (suc (suc (suc k))))) = r .payload .moves
-
--- a player's payoff in a record
-abbrev pub nodePayoff : NodeRecord → (player : ℕ) → ℤ
-nodePayoff r zero = r .payload .payoff1
-nodePayoff r (suc k) = r .payload .payoff2

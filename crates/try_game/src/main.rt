@@ -25,15 +25,18 @@ struct Size {
     nodes: u64,
 }
 
+// Text to standard output.
 fn say(text: &[u8]) {
     io::write_all(STDOUT_FILENO, text);
 }
 
+// A number after its label.
 fn say_number(before: &[u8], number: u64) {
     say(before);
     io::print_decimal(STDOUT_FILENO, number);
 }
 
+// A payoff with its sign.
 fn say_payoff(payoff: i16) {
     if payoff < 0 {
         say_number(b" -", -(payoff as i64) as u64);
@@ -42,6 +45,7 @@ fn say_payoff(payoff: i16) {
     }
 }
 
+// The number of a refusal.
 fn say_refusal(number: u64) {
     say_number(b": refusal ", number);
 }
@@ -60,6 +64,7 @@ fn load(name: &[u8], buffer: &mut [u8]) -> usize
     length
 }
 
+// The answer to a game file.
 fn say_game(answer: GameAnswer) {
     match answer {
         GameAnswer::Accepted {
@@ -75,6 +80,7 @@ fn say_game(answer: GameAnswer) {
     }
 }
 
+// The answer for a set.
 fn say_set(answer: SetAnswer) {
     match answer {
         SetAnswer::Entry { player, moves } => {
@@ -85,6 +91,7 @@ fn say_set(answer: SetAnswer) {
     }
 }
 
+// The answer for a set's own sequence.
 fn say_sequence(answer: SequenceAnswer) {
     match answer {
         SequenceAnswer::Sequence(own) => say_number(b": own sequence ", own.number),
@@ -92,12 +99,14 @@ fn say_sequence(answer: SequenceAnswer) {
     }
 }
 
+// What every node record has.
 fn say_stand(stand: Stand) {
     say_number(b" parent ", stand.parent);
     say_number(b" move ", stand.place);
     say_number(b" weight ", stand.weight);
 }
 
+// The answer for a node.
 fn say_node(answer: NodeAnswer) {
     match answer {
         NodeAnswer::Leaf {
@@ -215,6 +224,7 @@ fn try_look_ups(name: &[u8]) {
     look_up_all(game, Table::Nodes, size.nodes);
 }
 
+// The answer of the call for all fields.
 fn say_fields(answer: FieldsAnswer) {
     match answer {
         FieldsAnswer::Given {
@@ -230,6 +240,7 @@ fn say_fields(answer: FieldsAnswer) {
     }
 }
 
+// A column of numbers after its name.
 fn say_numbers(name: &[u8], column: &[u64]) {
     say(name);
     let mut at = 0;
@@ -239,6 +250,7 @@ fn say_numbers(name: &[u8], column: &[u64]) {
     }
 }
 
+// The sign of a payoff.
 fn say_sign(payoff: i64) {
     if payoff < 0 {
         say(b" -");
@@ -249,6 +261,7 @@ fn say_sign(payoff: i64) {
     }
 }
 
+// The signs of a column of payoffs after its name.
 fn say_signs(name: &[u8], column: &[i64]) {
     say(name);
     let mut at = 0;
