@@ -12,7 +12,7 @@ use super::Payload;
 use super::SetEntry;
 
 // The player and the move count of each set, in one pass.
-pub fn set_columns(bytes: &[u8], sets: usize, players: &mut [u64], moves: &mut [u64])
+fn set_columns(bytes: &[u8], sets: usize, players: &mut [u64], moves: &mut [u64])
     requires { ⌜ (sets ≡ gameOf (now bytes) .sets) × (sets ≤ length (now players)) × (sets ≤ length (now moves)) ⌝ }
     ensures { λ _. ⌜ (now (players .exit) ≡ over (playerField (gameOf (now (bytes .entry)))) (gameOf (now (bytes .entry)) .sets) (now (players .entry))) × (now (moves .exit) ≡ over (gameOf (now (bytes .entry)) .setMoves) (gameOf (now (bytes .entry)) .sets) (now (moves .entry))) ⌝ }
 {
@@ -60,7 +60,7 @@ fn put_node(
 }
 
 // Every field of each node, in one pass over the records; 0 where a node's kind lacks a number.
-pub fn node_columns(
+fn node_columns(
     bytes: &[u8],
     records: usize,
     nodes: usize,
