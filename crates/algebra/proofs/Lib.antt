@@ -5,3 +5,5 @@ pub mod Counts
 pub mod Sums
 pub mod Ranges
 pub mod Lists
+pub mod Arrays
+pub mod Gathering

@@ -107,6 +107,12 @@ unfolding firstTo
 firstTo-none zero p h = refl
 firstTo-none (suc n) p h = cond-no (p 0) 0 (suc (firstTo n (λ i. p (suc i)))) (h 0 (omega arith)) ∙ ap suc (firstTo-none n (λ i. p (suc i)) (λ i l. h (suc i) (omega arith)))
 
+-- equal tests find the same number
+pub firstTo-cong : (n : ℕ) (p q : ℕ → Bool) → ((i : ℕ) → i < n → p i ≡ q i) → firstTo n p ≡ firstTo n q
+unfolding firstTo
+firstTo-cong zero p q e = refl
+firstTo-cong (suc n) p q e = rw (e 0 (omega arith), firstTo-cong n (λ i. p (suc i)) (λ i. q (suc i)) (λ i l. e (suc i) (omega arith)))
+
 -- the first of two is at most the larger
 pub larger-left : (a b : ℤ) → a ≤ℤ larger a b
 unfolding larger

@@ -1,7 +1,13 @@
-// A file's bits: fields read from bytes, digits of numbers to be written, and what turns one number into another.
+// A file's bits: fields read from bytes, words and runs put into them, and what turns one number into another.
 ghost use mathlib.Core.Path.{_≡_};
 ghost use Prim.Native.Nat.{suc, _+_, _-_, _/_, _%_, _^_, _≤_, _<_};
 ghost use Rattle.model.specs.Bits.{bit, field, signed};
+
+pub mod runs;
+
+pub use runs::put_run;
+pub use runs::put_word;
+pub use runs::read_run;
 
 // A byte as a number of 64 bits. A cast where the byte is read would ask for a proof that it fits.
 fn wide(x: u8) -> u64

@@ -24,7 +24,7 @@ use Rattle.entry.specs.declared.SequenceAnswer.the-variants.{Sequence}
 use Rattle.entry.specs.declared.SetAnswer.the-variants.{Entry}
 use Rattle.entry.specs.declared.Stand.{Stand}
 use Rattle.entry.specs.Answers.{gameAnswer, setAnswer, nodeOf, nodeRead, nodeAnswer, sequenceAnswer}
-use Rattle.entry.proofs.Refusals.{Opened}
+use Rattle.game.proofs.Outcomes.{Opened}
 
 -- the counts of an accepted game
 pub game-is-read : (bytes : List ℕ) (h : Header) → Opened bytes h → Accepted (h .nodes) (h .sets) (h .«root_weight») ≡ gameAnswer (gameRefusal bytes) bytes

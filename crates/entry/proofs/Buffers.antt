@@ -18,7 +18,8 @@ use Rattle.game.proofs.Headers.{header-nodes, header-sets, header-weight}
 use Rattle.entry.specs.declared.FieldsAnswer.{FieldsAnswer}
 use Rattle.entry.specs.declared.FieldsAnswer.the-variants.{Given, Refused}
 use Rattle.entry.specs.GameFields.{fieldsRefusal, fieldsAnswer, buffersAfter, rooms}
-use Rattle.entry.proofs.Refusals.{Opened, Sent, game-first, last-fails, none-fails, refuses}
+use Rattle.game.proofs.Outcomes.{Opened, Sent, refuses}
+use Rattle.entry.proofs.Refusals.{game-first, game-last, game-none}
 
 -- a test of lengths that passes, and the others with it
 split : (n r : ℕ) {b : Bool} → (leb n r && b) ≡ true → (n ≤ r) × (b ≡ true)
@@ -84,7 +85,7 @@ module _ (bytes : List ℕ) (b : GameFields) where
   pub no-room : (x : Header) → Opened bytes x → {r : Bool} → r ≡ enough (x .sets) (x .nodes) → r ≡ false → Result (Refused 18) kept
   unfolding fieldsRefusal gameFieldsChecks withRoom
   no-room x o r f =
-      let e = last-fails _ _ _ _ (o .none) (sym (enough-is x o) ∙ sym r ∙ f) in
+      let e = game-last _ _ _ _ (o .none) (sym (enough-is x o) ∙ sym r ∙ f) in
       (refuses (λ k. fieldsAnswer k bytes) Refused (λ k. refl) e (λ z. omega arith), kept-is e (λ z. omega arith))
 
   -- every buffer has its room
@@ -115,7 +116,7 @@ module _ (bytes : List ℕ) (b : GameFields) where
 
   free : (x : Header) → Opened bytes x → enough (x .sets) (x .nodes) ≡ true → fieldsRefusal bytes b ≡ 0
   unfolding fieldsRefusal gameFieldsChecks withRoom
-  free x o t = none-fails _ _ _ _ (o .none) (sym (enough-is x o) ∙ t)
+  free x o t = game-none _ _ _ _ (o .none) (sym (enough-is x o) ∙ t)
 
   -- all fields given
   pub all-given : (x : Header) (a : GameFields) → Opened bytes x → {r : Bool} → r ≡ enough (x .sets) (x .nodes) → r ≡ true → a ≡ filled (gameOf bytes) b → Result (Given (x .nodes) (x .sets) (x .«root_weight»)) a

@@ -1,3 +1,6 @@
 pub mod Answers
 pub mod Buffers
+pub mod Pairs
 pub mod Refusals
+pub mod Valued
+pub mod Written

@@ -1,77 +1,56 @@
 -- A call that checks its game first, and last one thing more: which refusal it gives.
-use Prim.Native.Nat.{ℕ, zero, suc, _≤_, _<_}
-use mathlib.Core.Path.{_≡_, refl, sym, ap, _∙_}
+use Prim.Native.Nat.{ℕ, _≤_, _<_}
+use mathlib.Core.Path.{_≡_, sym, _∙_}
 use mathlib.Core.Bool.{Bool, true, false, cond}
 use mathlib.Core.List.{List, [], _∷_, _++_}
-use native.Mathlib.Omega.{arith}
-use lib.Dec.{eqb, ltb}
+use lib.Dec.{T, eqb, ltb}
 use borrow.Author.Tests.{lt-ltb, le-ltb, ne-eqb}
-use Rattle.model.specs.Refusals.{firstFailing, along, numbers}
+use Rattle.model.specs.Refusals.{Checks, firstFailing, along, numbers}
 use Rattle.model.specs.GameChecks.{gameChecks, headerChecks, treeChecks, gameRefusal}
 use Rattle.model.specs.Calls.{Numbered}
-use Rattle.model.proofs.Refusals.{first-append, first-along}
-use Rattle.game.specs.declared.Header.{Header}
-use Rattle.game.specs.declared.GameAnswer.{GameAnswer as Checked}
-use Rattle.game.specs.declared.GameAnswer.the-variants.{Accepted, Refused}
-use Rattle.game.specs.Records.{headerOf}
-use Rattle.game.specs.Answers.{answerFor}
-use Rattle.entry.specs.Answers.{numbered, refusalOf}
+use Rattle.model.proofs.Refusals.{nonzero, first-append, first-along, numbers-along}
+use Rattle.game.proofs.Outcomes.{Sent}
+use Rattle.entry.specs.Answers.{numbered}
 
--- a game that was accepted has this header
-pub record Opened (bytes : List ℕ) (h : Header) : Type 0 where
-  pub none : gameRefusal bytes ≡ 0
-  pub header : h ≡ headerOf bytes
-
-pub opened : (bytes : List ℕ) {a : Checked} {h : Header} → a ≡ answerFor (gameRefusal bytes) bytes → a ≡ Accepted h → Opened bytes h
-opened bytes {a} {h} e f = go (gameRefusal bytes) refl (sym f ∙ e)
-  where
-    go : (k : ℕ) → gameRefusal bytes ≡ k → Accepted h ≡ answerFor k bytes → Opened bytes h
-    go zero k e = record { none = k; header = cc }
-    go (suc n) k e = let z : _≡_ {A = ℕ} 0 1 = cc in absurd (omega arith)
-
--- the number of a game's refusal
-pub record Sent (bytes : List ℕ) (r : ℕ) : Type 0 where
-  pub number : r ≡ gameRefusal bytes
-  pub some : ¬ (r ≡ 0)
-
-pub sent : (bytes : List ℕ) {a : Checked} {k r : ℕ} → a ≡ answerFor (gameRefusal bytes) bytes → a ≡ Refused k → r ≡ refusalOf a → Sent bytes r
-sent bytes {a} {k} {r} e f g = go (gameRefusal bytes) refl (sym f ∙ e)
-  where
-    go : (n : ℕ) → gameRefusal bytes ≡ n → Refused k ≡ answerFor n bytes → Sent bytes r
-    go zero m e = let z : _≡_ {A = ℕ} 0 1 = cc in absurd (omega arith)
-    go (suc n) m e =
-        let same : k ≡ suc n = cc in
-        let is : r ≡ k = g ∙ ap refusalOf f in
-        record { number = is ∙ same ∙ sym m; some = λ z. omega (arith, is, same) }
-
--- a refusal is answered by its number
-pub refuses : {A : Type 0} (answer refused : ℕ → A) → ((k : ℕ) → refused (suc k) ≡ answer (suc k)) → {r first : ℕ} → first ≡ r → ¬ (r ≡ 0) → refused r ≡ answer first
-refuses answer refused same {r} e n = go r n ∙ ap answer (sym e)
-  where
-    go : (r : ℕ) → ¬ (r ≡ 0) → refused r ≡ answer r
-    go zero n = absurd (n refl)
-    go (suc k) n = same k
-
--- The game's checks, made of a part of the input, and then one check of the whole.
-module _ {A : Type 0} (part : A → List ℕ) (last : ℕ) (test : A → Bool) (a : A) where
+-- Checks made of a part of the input, and then one check of the whole.
+module _ {A B : Type 0} (checks : Checks B) (some : T (nonzero (numbers checks))) (part : A → B) (last : ℕ) (test : A → Bool) (a : A) where
   abbrev pub Then : ℕ → Type 0
-  Then k = firstFailing (along part gameChecks ++ (last, test) ∷ []) a ≡ k
+  Then k = firstFailing (along part checks ++ (last, test) ∷ []) a ≡ k
 
-  joined : Then (cond (eqb (gameRefusal (part a)) 0) (cond (test a) 0 last) (gameRefusal (part a)))
-  unfolding firstFailing numbers along gameChecks headerChecks treeChecks gameRefusal
-  joined = first-append (along part gameChecks) ((last, test) ∷ []) a tt ∙ rw (first-along part gameChecks a)
+  joined : Then (cond (eqb (firstFailing checks (part a)) 0) (cond (test a) 0 last) (firstFailing checks (part a)))
+  unfolding firstFailing
+  joined = first-append (along part checks) ((last, test) ∷ []) a (rw (numbers-along part checks) some) ∙ rw (first-along part checks a)
 
-  -- the game's refusal comes first
-  pub game-first : {r : ℕ} → Sent (part a) r → Then r
-  game-first s = joined ∙ rw (ne-eqb (gameRefusal (part a)) 0 (λ e. s .some (s .number ∙ e))) (sym (s .number))
+  -- the part's refusal comes first
+  pub part-fails : {r : ℕ} → r ≡ firstFailing checks (part a) → ¬ (r ≡ 0) → Then r
+  part-fails e n = joined ∙ rw (ne-eqb (firstFailing checks (part a)) 0 (λ z. n (e ∙ z))) (sym e)
 
-  -- the last check's refusal, of an accepted game
-  pub last-fails : gameRefusal (part a) ≡ 0 → test a ≡ false → Then last
+  -- the last check's refusal, where the part has none
+  pub last-fails : firstFailing checks (part a) ≡ 0 → test a ≡ false → Then last
   last-fails e f = joined ∙ rw (e, f)
 
   -- no refusal
-  pub none-fails : gameRefusal (part a) ≡ 0 → test a ≡ true → Then 0
+  pub none-fails : firstFailing checks (part a) ≡ 0 → test a ≡ true → Then 0
   none-fails e f = joined ∙ rw (e, f)
+
+-- no check of a game has the number 0
+pub some-game : T (nonzero (numbers gameChecks))
+unfolding numbers gameChecks headerChecks treeChecks
+some-game = tt
+
+-- The game's checks first.
+module _ {A : Type 0} (part : A → List ℕ) (last : ℕ) (test : A → Bool) (a : A) where
+  pub game-first : {r : ℕ} → Sent (part a) r → Then gameChecks some-game part last test a r
+  unfolding gameRefusal
+  game-first s = part-fails gameChecks some-game part last test a (s .number) (s .some)
+
+  pub game-last : gameRefusal (part a) ≡ 0 → test a ≡ false → Then gameChecks some-game part last test a last
+  unfolding gameRefusal
+  game-last e f = last-fails gameChecks some-game part last test a e f
+
+  pub game-none : gameRefusal (part a) ≡ 0 → test a ≡ true → Then gameChecks some-game part last test a 0
+  unfolding gameRefusal
+  game-none e f = none-fails gameChecks some-game part last test a e f
 
 -- A number asked for in a game, below a bound that the file gives.
 module _ (bound : List ℕ → ℕ) (bytes : List ℕ) (n : ℕ) where
@@ -80,8 +59,8 @@ module _ (bound : List ℕ → ℕ) (bytes : List ℕ) (n : ℕ) where
 
   -- it is not in the game
   pub number-missing : gameRefusal bytes ≡ 0 → bound bytes ≤ n → Asked 17
-  number-missing e l = last-fails _ _ _ _ e (le-ltb n (bound bytes) l)
+  number-missing e l = game-last _ _ _ _ e (le-ltb n (bound bytes) l)
 
   -- it is
   pub number-found : gameRefusal bytes ≡ 0 → n < bound bytes → Asked 0
-  number-found e l = none-fails _ _ _ _ e (lt-ltb n (bound bytes) l)
+  number-found e l = game-none _ _ _ _ e (lt-ltb n (bound bytes) l)

@@ -6,8 +6,6 @@ use Rattle.model.specs.Game.{Game, gameOf, one, two, playerBit}
 use Rattle.model.specs.Sequences.{leading, sequenceNumber}
 use Rattle.model.specs.Calls.{Numbered}
 use Rattle.game.specs.declared.NodeRecord.{NodeRecord}
-use Rattle.game.specs.declared.GameAnswer.{GameAnswer as Checked}
-use Rattle.game.specs.declared.GameAnswer.the-variants as Check
 use Rattle.entry.specs.declared.GameAnswer.{GameAnswer}
 use Rattle.entry.specs.declared.GameAnswer.the-variants as Game
 use Rattle.entry.specs.declared.SetAnswer.{SetAnswer}
@@ -55,11 +53,6 @@ nodeAnswer (suc k) bytes n = Node.Refused (suc k)
 abbrev pub sequenceAnswer : (refusal : ℕ) → List ℕ → (h : ℕ) → SequenceAnswer
 sequenceAnswer zero bytes h = Sequence.Sequence (record { number = sequenceNumber (gameOf bytes) (gameOf bytes .setPlayer h) (leading (gameOf bytes) h) })
 sequenceAnswer (suc k) bytes h = Sequence.Refused (suc k)
-
--- the number of a check's refusal, or 0
-abbrev pub refusalOf : Checked → ℕ
-refusalOf (Check.Accepted h) = 0
-refusalOf (Check.Refused k) = k
 
 -- a record that was read
 abbrev pub standRead : NodeRecord → Stand

@@ -62,7 +62,7 @@ pub fn game_fields(
 {
     let checked = game::check(game);
     let game::GameAnswer::Accepted(header) = checked else {
-        return FieldsAnswer::Refused(super::refusal(checked));
+        return FieldsAnswer::Refused(game::refusal(checked));
     };
     let room = has_room(
         header.sets,

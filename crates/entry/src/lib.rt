@@ -4,13 +4,16 @@ ghost use mathlib.Core.Path.{_≡_};
 ghost use Rattle.model.specs.Refusals.{firstFailing};
 ghost use Rattle.model.specs.GameChecks.{gameRefusal};
 ghost use Rattle.model.specs.Calls.{setNumberChecks, nodeNumberChecks};
-ghost use Rattle.entry.specs.Answers.{numbered, gameAnswer, setAnswer, nodeAnswer, sequenceAnswer, refusalOf, nodeRead};
+ghost use Rattle.entry.specs.Answers.{numbered, gameAnswer, setAnswer, nodeAnswer, sequenceAnswer, nodeRead};
 use game::NodeRecord;
 use game::OwnSequence;
 use game::Payload;
 use game::SetEntry;
 
 pub mod fields;
+pub mod plans;
+pub mod values;
+pub mod writing;
 
 // The answer to a game file: accepted, with N, H and D0, or the first refusal, 1 to 13.
 pub enum GameAnswer {
@@ -69,13 +72,45 @@ pub enum FieldsAnswer {
     Refused(u64),
 }
 
+// The answer to a plan file against a game file: it fits, with D1 and D2, or the first refusal, 1 to 16.
+pub enum PlanAnswer {
+    Fits { first: u64, second: u64 },
+    Refused(u64),
+}
+
+// All weights of a plan stand in the lent buffer; a refusal is 1 to 16, or 18.
+pub enum WeightsAnswer {
+    Given { first: u64, second: u64, count: u64 },
+    Refused(u64),
+}
+
+// The players' values over D0 × D1 × D2, their best values over D0 × the other's D, and D0, D1 and D2; a refusal is 1 to 16.
+pub enum ValuesAnswer {
+    Given {
+        value1: i64,
+        value2: i64,
+        best1: i64,
+        best2: i64,
+        root_weight: u64,
+        first: u64,
+        second: u64,
+    },
+    Refused(u64),
+}
+
+// A file stands in the lent buffer, of so many bytes; a refusal is 17 or 18.
+pub enum WriteAnswer {
+    Written(u64),
+    Refused(u64),
+}
+
 // Checks a game file.
 pub fn check_game(game: &[u8]) -> GameAnswer
     ensures { λ r. ⌜ r ≡ gameAnswer (gameRefusal (now (game .entry))) (now (game .entry)) ⌝ }
 {
     let checked = game::check(game);
     let game::GameAnswer::Accepted(header) = checked else {
-        return GameAnswer::Refused(refusal(checked));
+        return GameAnswer::Refused(game::refusal(checked));
     };
     GameAnswer::Accepted {
         nodes: header.nodes as u64,
@@ -90,7 +125,7 @@ pub fn set_entry(game: &[u8], number: u64) -> SetAnswer
 {
     let checked = game::check(game);
     let game::GameAnswer::Accepted(header) = checked else {
-        return SetAnswer::Refused(refusal(checked));
+        return SetAnswer::Refused(game::refusal(checked));
     };
     if header.sets as u64 <= number {
         return SetAnswer::Refused(17);
@@ -99,16 +134,6 @@ pub fn set_entry(game: &[u8], number: u64) -> SetAnswer
     SetAnswer::Entry {
         player: entry.player,
         moves: entry.moves as u64,
-    }
-}
-
-// The number of a refusal, or 0.
-fn refusal(answer: game::GameAnswer) -> u64
-    ensures { λ r. ⌜ r ≡ refusalOf answer ⌝ }
-{
-    match answer {
-        game::GameAnswer::Accepted(_) => 0,
-        game::GameAnswer::Refused(number) => number,
     }
 }
 
@@ -146,7 +171,7 @@ pub fn node_record(game: &[u8], number: u64) -> NodeAnswer
 {
     let checked = game::check(game);
     let game::GameAnswer::Accepted(header) = checked else {
-        return NodeAnswer::Refused(refusal(checked));
+        return NodeAnswer::Refused(game::refusal(checked));
     };
     if header.nodes as u64 <= number {
         return NodeAnswer::Refused(17);
@@ -160,7 +185,7 @@ pub fn own_sequence(game: &[u8], number: u64) -> SequenceAnswer
 {
     let checked = game::check(game);
     let game::GameAnswer::Accepted(header) = checked else {
-        return SequenceAnswer::Refused(refusal(checked));
+        return SequenceAnswer::Refused(game::refusal(checked));
     };
     if header.sets as u64 <= number {
         return SequenceAnswer::Refused(17);

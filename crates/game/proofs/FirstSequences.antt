@@ -11,6 +11,7 @@ use Rattle.algebra.specs.Bounded.{countTo}
 use Rattle.algebra.proofs.Tests.{cond-yes, cond-no, eqb-make}
 use Rattle.algebra.proofs.Counts.{only, only-most, count-suc, count-cong, count-bound}
 use Rattle.model.specs.Game.{Game, Player, one, two, gameOf, setAt, samePlayer, playerOf, playerBit, owns, movesBefore}
+use Rattle.model.specs.Sequences.{sequenceCount}
 use Rattle.model.proofs.Bits.{field-fits}
 use Rattle.game.specs.declared.SetEntry.{SetEntry}
 use Rattle.game.specs.Records.{SetRead}
@@ -25,7 +26,12 @@ bit-tells one two = refl
 bit-tells two one = refl
 bit-tells two two = refl
 
--- and a bit is some player's
+-- it is 0 or 1
+bit-below : (p : Player) → playerBit p < 2
+bit-below one = omega arith
+bit-below two = omega arith
+
+-- and each of these is some player's
 bit-back : (b : ℕ) → b < 2 → playerBit (playerOf b) ≡ b
 bit-back zero l = refl
 bit-back (suc zero) l = refl
@@ -36,12 +42,22 @@ module _ (g : Game) where
   unfoldable pub nextNumber : (h b : ℕ) → ℕ
   nextNumber h b = 1 + countTo h (λ k. only (eqb (playerBit (g .setPlayer k)) b) (g .setMoves k))
 
+  -- it comes after those of the player's sets below h
+  next-of : (h : ℕ) (p : Player) → nextNumber h (playerBit p) ≡ 1 + movesBefore g p h
+  unfolding nextNumber movesBefore owns
+  next-of h p =
+      ap (λ (n : ℕ). 1 + n)
+      (count-cong h _ _ (λ k l. ap (λ (t : Bool). only t (g .setMoves k)) (bit-tells p (g .setPlayer k))))
+
   -- set h gives it to its own first sequence
   next-first : (h : ℕ) → nextNumber h (playerBit (g .setPlayer h)) ≡ firstSequence g h
-  unfolding nextNumber firstSequence movesBefore owns
-  next-first h =
-      ap (λ (n : ℕ). 1 + n)
-      (count-cong h _ _ (λ k l. ap (λ (t : Bool). only t (g .setMoves k)) (bit-tells (g .setPlayer h) (g .setPlayer k))))
+  unfolding firstSequence
+  next-first h = next-of h (g .setPlayer h)
+
+  -- after the last set it is how many there are
+  pub next-count : (p : Player) {next : List ℕ} → Holds (nextNumber (g .sets)) 2 next → getD next (playerBit p) 0 ≡ sequenceCount g p
+  unfolding sequenceCount
+  next-count p N = N .at (playerBit p) (bit-below p) ∙ next-of (g .sets) p
 
   -- and takes as many as it has moves
   next-more : (h b : ℕ) → nextNumber (h + 1) b ≡ nextNumber h b + only (eqb (playerBit (g .setPlayer h)) b) (g .setMoves h)

@@ -122,28 +122,33 @@ unfolding hasLength gameLength
 length-broken h bytes e l = is-broken _ (ne-eqb (length bytes) (5 + gameOf bytes .sets + 8 * gameOf bytes .nodes) (λ z. l (omega (arith, header-sets h bytes e, header-nodes h bytes e))))
 
 -- A table of which the first k checks hold: what it answers is what the rest answers.
-pub record Past (checks : Checks (List ℕ)) (k : ℕ) (bytes : List ℕ) : Type 0 where
-  pub same : firstFailing checks bytes ≡ firstFailing (drop k checks) bytes
+pub record Past {A : Type 0} (checks : Checks A) (k : ℕ) (a : A) : Type 0 where
+  pub same : firstFailing checks a ≡ firstFailing (drop k checks) a
 
--- no check made yet
-pub past-none : (checks : Checks (List ℕ)) (bytes : List ℕ) → Past checks 0 bytes
-past-none checks bytes = record { same = refl }
+module _ {A : Type 0} (checks : Checks A) where
+  -- no check made yet
+  pub past-none : (a : A) → Past checks 0 a
+  past-none a = record { same = refl }
 
--- the check in place k is fine
-pub past-fine : (checks : Checks (List ℕ)) (k j : ℕ) (test : List ℕ → Bool) {bytes : List ℕ} {r : Checked} → drop k checks ≡ (j, test) ∷ drop (suc k) checks → Past checks k bytes → r ≡ checkedOf (test bytes) → r ≡ Fine → Past checks (suc k) bytes
-unfolding firstFailing
-past-fine checks k j test {bytes} at p e f =
-    let holds : cond (test bytes) (firstFailing (drop (suc k) checks) bytes) j ≡ firstFailing (drop (suc k) checks) bytes = rw (fine-holds (test bytes) (sym f ∙ e)) in
-    record { same = p .same ∙ ap (λ (c : Checks (List ℕ)). firstFailing c bytes) at ∙ holds }
+  -- the check in place k is fine
+  pub past-fine : (k j : ℕ) (test : A → Bool) {a : A} {r : Checked} → drop k checks ≡ (j, test) ∷ drop (suc k) checks → Past checks k a → r ≡ checkedOf (test a) → r ≡ Fine → Past checks (suc k) a
+  unfolding firstFailing
+  past-fine k j test {a} at p e f =
+      let holds : cond (test a) (firstFailing (drop (suc k) checks) a) j ≡ firstFailing (drop (suc k) checks) a = rw (fine-holds (test a) (sym f ∙ e)) in
+      record { same = p .same ∙ ap (λ (c : Checks A). firstFailing c a) at ∙ holds }
 
--- the check in place k is broken, and gives its number
+  -- the check in place k is broken, and gives its number
+  pub past-stops : (k j : ℕ) (test : A → Bool) {a : A} {r : Checked} → drop k checks ≡ (j, test) ∷ drop (suc k) checks → Past checks k a → r ≡ checkedOf (test a) → r ≡ Broken → firstFailing checks a ≡ j
+  unfolding firstFailing
+  past-stops k j test {a} at p e f =
+      let fails : cond (test a) (firstFailing (drop (suc k) checks) a) j ≡ j = rw (broken-fails (test a) (sym f ∙ e)) in
+      p .same ∙ ap (λ (c : Checks A). firstFailing c a) at ∙ fails
+
+  -- all checks are fine
+  pub past-all : (k : ℕ) (a : A) → drop k checks ≡ [] → Past checks k a → firstFailing checks a ≡ 0
+  unfolding firstFailing
+  past-all k a at p = p .same ∙ ap (λ (c : Checks A). firstFailing c a) at
+
+-- the answer to a game file where the check in place k is broken
 pub past-broken : (checks : Checks (List ℕ)) (k j : ℕ) (test : List ℕ → Bool) {bytes : List ℕ} {r : Checked} → drop k checks ≡ (suc j, test) ∷ drop (suc k) checks → Past checks k bytes → r ≡ checkedOf (test bytes) → r ≡ Broken → Refused (suc j) ≡ answerFor (firstFailing checks bytes) bytes
-unfolding firstFailing
-past-broken checks k j test {bytes} at p e f =
-    let fails : cond (test bytes) (firstFailing (drop (suc k) checks) bytes) (suc j) ≡ suc j = rw (broken-fails (test bytes) (sym f ∙ e)) in
-    ap (λ (n : ℕ). answerFor n bytes) (sym (p .same ∙ ap (λ (c : Checks (List ℕ)). firstFailing c bytes) at ∙ fails))
-
--- all checks are fine
-pub past-all : (checks : Checks (List ℕ)) (k : ℕ) (bytes : List ℕ) → drop k checks ≡ [] → Past checks k bytes → firstFailing checks bytes ≡ 0
-unfolding firstFailing
-past-all checks k bytes at p = p .same ∙ ap (λ (c : Checks (List ℕ)). firstFailing c bytes) at
+past-broken checks k j test {bytes} at p e f = ap (λ (n : ℕ). answerFor n bytes) (sym (past-stops checks k (suc j) test at p e f))

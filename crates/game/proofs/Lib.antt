@@ -10,6 +10,7 @@ pub mod Loops
 pub mod Masks
 pub mod Moves
 pub mod NodeTests
+pub mod Outcomes
 pub mod Own
 pub mod Passes
 pub mod Payloads

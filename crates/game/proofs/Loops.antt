@@ -10,6 +10,7 @@ use lib.ListN.{length, getD, drop, set, length-append, length-drop, length-set, 
 use lib.Seq.{ext-getD, getD-append-add, getD-drop, getD-set-same, getD-set-other}
 use Rattle.algebra.specs.Bounded.{allTo, listTo}
 use Rattle.algebra.proofs.Lists.{length-listTo, listTo-at}
+use Rattle.game.specs.declared.Checked.{Checked}
 use Rattle.game.specs.declared.Checked.the-variants.{Fine, Broken}
 use Rattle.game.specs.Answers.{checkedOf, Holds, over}
 
@@ -19,6 +20,16 @@ is-fine b e = rw e
 
 pub is-broken : (b : Bool) → b ≡ false → Broken ≡ checkedOf b
 is-broken b e = rw e
+
+-- two tests in a row: the answer where the first is broken
+pub first-broken : (a b : Bool) {r : Checked} → r ≡ checkedOf a → r ≡ Broken → Broken ≡ checkedOf (a && b)
+first-broken true b e f = let z : _≡_ {A = ℕ} 0 1 = cc in absurd (omega arith)
+first-broken false b e f = refl
+
+-- and where it is fine: the second's
+pub then-second : (a b : Bool) {r s : Checked} → r ≡ checkedOf a → r ≡ Fine → s ≡ checkedOf b → s ≡ checkedOf (a && b)
+then-second true b e f second = second
+then-second false b e f second = let z : _≡_ {A = ℕ} 0 1 = cc in absurd (omega arith)
 
 -- a test of nothing
 pub all-none : (p : ℕ → Bool) → allTo 0 p ≡ true

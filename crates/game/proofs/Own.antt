@@ -21,7 +21,7 @@ use Rattle.game.specs.Sets.{firstSequence}
 use Rattle.game.specs.Recall.{lastOf, numberOf, Numbered}
 
 -- bits that name the same player
-bits-same : (b p : ℕ) → b < 2 → p < 2 → playerOf b ≡ playerOf p → b ≡ p
+pub bits-same : (b p : ℕ) → b < 2 → p < 2 → playerOf b ≡ playerOf p → b ≡ p
 bits-same zero zero l k e = refl
 bits-same zero (suc p) l k e = absurd (subst T (ap (samePlayer one) e) tt)
 bits-same (suc b) zero l k e = absurd (subst T (sym (ap (samePlayer one) e)) tt)

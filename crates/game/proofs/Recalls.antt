@@ -1,6 +1,6 @@
 -- Check 13 by numbers: in each set every node has the own sequence number of the first.
 use Prim.Native.Nat.{ℕ, _≤_, _<_}
-use mathlib.Core.Path.{_≡_, refl, sym, ap, _∙_, subst}
+use mathlib.Core.Path.{_≡_, sym, ap, _∙_, subst}
 use mathlib.Core.Bool.{Bool, true, false, _&&_}
 use mathlib.Core.List.{List}
 use native.Mathlib.Omega.{arith}
@@ -21,7 +21,7 @@ use Rattle.game.specs.declared.Checked.{Checked}
 use Rattle.game.specs.declared.Checked.the-variants.{Fine, Broken}
 use Rattle.game.specs.Answers.{checkedOf, Rooted, Holds, over}
 use Rattle.game.specs.Recall.{recallTest}
-use Rattle.game.proofs.Loops.{over-holds}
+use Rattle.game.proofs.Loops.{first-broken, then-second, over-holds}
 
 -- an array that was filled holds what it was filled with
 pub filled : {f : ℕ → ℕ} {n : ℕ} {k : List ℕ} (l : List ℕ) → k ≡ over f n l → n ≤ length l → Holds f n k
@@ -107,16 +107,8 @@ module _ (g : Game) where
 
   -- its answer, where player 1's tests fail
   pub recall-broken : Rooted g → {r : Checked} → r ≡ checkedOf (allTo (g .nodes) (recallTest g one)) → r ≡ Broken → Broken ≡ checkedOf (perfectRecall g)
-  recall-broken R e b = rw (recall-by-tests R) (go (allTo (g .nodes) (recallTest g one)) _ (sym b ∙ e))
-    where
-      go : (a b : Bool) → Broken ≡ checkedOf a → Broken ≡ checkedOf (a && b)
-      go true b e = let z : _≡_ {A = ℕ} 0 1 = cc in absurd (omega arith)
-      go false b e = refl
+  recall-broken R e b = rw (recall-by-tests R) (first-broken (allTo (g .nodes) (recallTest g one)) _ e b)
 
   -- and where they pass: player 2's answer
   pub recall-second : Rooted g → {r s : Checked} → r ≡ checkedOf (allTo (g .nodes) (recallTest g one)) → r ≡ Fine → s ≡ checkedOf (allTo (g .nodes) (recallTest g two)) → s ≡ checkedOf (perfectRecall g)
-  recall-second R {s = s} e b f = rw (recall-by-tests R) (go (allTo (g .nodes) (recallTest g one)) _ (sym b ∙ e) f)
-    where
-      go : (a b : Bool) → Fine ≡ checkedOf a → s ≡ checkedOf b → s ≡ checkedOf (a && b)
-      go true b e f = f
-      go false b e f = let z : _≡_ {A = ℕ} 0 1 = cc in absurd (omega arith)
+  recall-second R e b f = rw (recall-by-tests R) (then-second (allTo (g .nodes) (recallTest g one)) _ e b f)

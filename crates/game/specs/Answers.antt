@@ -22,6 +22,11 @@ abbrev pub answerFor : ℕ → List ℕ → GameAnswer
 answerFor zero bytes = Accepted (headerOf bytes)
 answerFor (suc k) bytes = Refused (suc k)
 
+-- the number of an answer's refusal, or 0
+abbrev pub refusalOf : GameAnswer → ℕ
+refusalOf (Accepted h) = 0
+refusalOf (Refused k) = k
+
 -- where the node records begin, and how many there are
 pub record Framed (bytes : List ℕ) (records nodes : ℕ) : Type 0 where
   pub records-is : records ≡ nodeAt bytes 0

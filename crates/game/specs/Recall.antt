@@ -28,3 +28,7 @@ Numbered (Made set place) starts = (set < length starts) × (getD starts set 0 �
 -- where p moves at node n, his own sequence number is that of the set's first node
 unfoldable pub recallTest : Game → Player → ℕ → Bool
 recallTest g p n = implies (acts g p n) (eqb (ownNumber g p n) (ownNumber g p (firstNode g (g .nodeSet n))))
+
+-- the number stored for the first node stored for set h: where the lists hold first nodes and own numbers, that of the sequence leading to the set
+abbrev pub leadingStored : (first own : List ℕ) → (h : ℕ) → ℕ
+leadingStored first own h = getD own (getD first h 0) 0

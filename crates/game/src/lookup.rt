@@ -1,14 +1,25 @@
 // The own sequence that leads to a set.
 ghost use mathlib.Core.Path.{_≡_};
 ghost use Prim.Native.Nat.{_<_};
+ghost use lib.ListN.{length, getD};
 ghost use Rattle.model.specs.Game.{gameOf};
 ghost use Rattle.model.specs.Sequences.{leading, sequenceNumber};
 ghost use Rattle.model.specs.Demand1.{GameRules};
 ghost use Rattle.game.specs.Answers.{Framed};
+ghost use Rattle.game.specs.Recall.{leadingStored};
 use super::OwnSequence;
 use super::SetEntry;
 use super::recall;
 use super::sets;
+
+// The own sequence that leads to set `h`: the number stored for the first node stored for it.
+pub fn leading(first: &[u64], own: &[u64], h: usize) -> OwnSequence
+    requires { ⌜ (h < length (now first)) × (getD (now first) h 0 < length (now own)) ⌝ }
+    ensures { λ r. ⌜ r .number ≡ leadingStored (now (first .entry)) (now (own .entry)) h ⌝ }
+{
+    let node = bits::index(first[h]);
+    OwnSequence { number: own[node] }
+}
 
 // The own sequence that leads to set `h` of an accepted game.
 pub fn own_sequence(
@@ -28,6 +39,5 @@ pub fn own_sequence(
     sets::first_nodes(bytes, records, nodes, sets, &mut first);
     let entry = SetEntry::read(bytes, h);
     recall::own_numbers(bytes, records, nodes, entry.player, &starts, &mut own);
-    let node = bits::index(first[h]);
-    OwnSequence { number: own[node] }
+    leading(&first, &own, h)
 }

@@ -2,14 +2,15 @@
 ghost use mathlib.Core.Path.{_≡_};
 ghost use Prim.Native.Nat.{_≤_};
 ghost use lib.ListN.{length};
-ghost use Rattle.model.specs.Game.{gameOf};
-ghost use Rattle.model.specs.Sequences.{firstNode};
+ghost use Rattle.model.specs.Game.{gameOf, one, two};
+ghost use Rattle.model.specs.Sequences.{firstNode, sequenceCount};
 ghost use Rattle.model.specs.GameChecks.{setsNonEmpty};
 ghost use Rattle.game.specs.Answers.{checkedOf, Framed, Rooted, over};
 ghost use Rattle.game.specs.Sets.{firstSequence};
 use super::Checked;
 use super::NodeRecord;
 use super::Payload;
+use super::SequenceCounts;
 use super::SetEntry;
 
 // Puts `value` into the first `count` places.
@@ -67,10 +68,10 @@ pub fn sets_non_empty(bytes: &[u8], records: usize, nodes: usize, sets: usize) -
 }
 
 // The number of the first sequence of each set: 1, and the moves of its player's earlier sets.
-// `next` has the number that the next sequence of either player gets.
-pub fn first_sequences(bytes: &[u8], sets: usize, out: &mut [u64])
+// `next` has the number that the next sequence of either player gets: after the last set, how many there are.
+pub fn first_sequences(bytes: &[u8], sets: usize, out: &mut [u64]) -> SequenceCounts
     requires { ⌜ (sets ≡ gameOf (now bytes) .sets) × (sets ≤ length (now out)) ⌝ }
-    ensures { λ _. ⌜ now (out .exit) ≡ over (firstSequence (gameOf (now (bytes .entry)))) (gameOf (now (bytes .entry)) .sets) (now (out .entry)) ⌝ }
+    ensures { λ r. ⌜ (now (out .exit) ≡ over (firstSequence (gameOf (now (bytes .entry)))) (gameOf (now (bytes .entry)) .sets) (now (out .entry))) × (r .first ≡ sequenceCount (gameOf (now (bytes .entry))) one) × (r .second ≡ sequenceCount (gameOf (now (bytes .entry))) two) ⌝ }
 {
     let mut next = [1u64; 2];
     let mut h = 0;
@@ -81,5 +82,9 @@ pub fn first_sequences(bytes: &[u8], sets: usize, out: &mut [u64])
         out[h] = start;
         next[player] = start + wide(entry.moves);
         h += 1;
+    }
+    SequenceCounts {
+        first: next[0],
+        second: next[1],
     }
 }

@@ -1,10 +1,10 @@
 -- Tables of checks: what the first failing one says, and tables joined and made of a part.
-use Prim.Native.Nat.{ℕ}
+use Prim.Native.Nat.{ℕ, _<_}
 use mathlib.Core.Path.{_≡_, refl, sym, ap, _∙_, subst}
 use mathlib.Core.Logic.{_↔_, Iff·symm, Iff·trans, Iff·and, _⊎_, inl, inr}
 use mathlib.Core.Bool.{Bool, true, false, not, _&&_, cond}
 use mathlib.Core.List.{List, [], _∷_, _++_}
-use lib.Dec.{T, eqb, eqb→eq, T-not}
+use lib.Dec.{T, eqb, ltb, eqb→eq, ltb→lt, T-not}
 use mir.Facts.{and-yes}
 use Rattle.algebra.proofs.Tests.{dec, cond-yes, cond-no, eqb-make}
 use Rattle.model.specs.Refusals.{Checks, firstFailing, along, numbers}
@@ -15,6 +15,23 @@ use Rattle.model.proofs.Decisions.{Decides}
 abbrev pub nonzero : List ℕ → Bool
 nonzero [] = true
 nonzero (k ∷ rest) = not (eqb k 0) && nonzero rest
+
+-- every number is below n
+abbrev pub eachBelow : (n : ℕ) → List ℕ → Bool
+eachBelow n [] = true
+eachBelow n (k ∷ rest) = ltb k n && eachBelow n rest
+
+-- and so is the first refusal
+pub first-below : {A : Type 0} (checks : Checks A) (a : A) (n : ℕ) → 0 < n → T (eachBelow n (numbers checks)) → firstFailing checks a < n
+unfolding firstFailing numbers
+first-below [] a n z t = z
+first-below (c ∷ rest) a n z t =
+    let h = and-yes (ltb (c .0) n) (eachBelow n (numbers rest)) t in
+    go ((c .1) a) (ltb→lt (c .0) n (h .0)) (first-below rest a n z (h .1))
+  where
+    go : (b : Bool) → c .0 < n → firstFailing rest a < n → cond b (firstFailing rest a) (c .0) < n
+    go true this later = later
+    go false this later = this
 
 -- every test of the table passes
 abbrev pub AllPass : {A : Type 0} → Checks A → A → Type 0

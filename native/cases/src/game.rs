@@ -1,8 +1,7 @@
 //! The cases of `try_game`, which checks game files and looks their sets and
 //! nodes up.
 
-mod accepted;
-mod large;
+pub(crate) mod accepted;
 mod lines;
 mod order;
 mod recall;
@@ -11,6 +10,7 @@ mod refused;
 pub use order::{pairs, Pair};
 
 use crate::program::Program;
+use crate::text::list;
 use generator::edit::{put_bits, Field};
 use reference::Refusal;
 
@@ -49,7 +49,7 @@ pub fn all_cases() -> Result<Vec<Case>, Refusal> {
 /// The program with one file for each case and the list of their names.
 pub fn try_game() -> Result<Program, Refusal> {
     let cases = all_cases()?;
-    let list: String = cases.iter().map(|case| case.name() + "\n").collect();
+    let list = (LIST.to_string(), list(cases.iter().map(Case::name)));
     let mut stdout: String = cases.iter().map(lines::check_line).collect();
     for case in named(&cases, &LOOKED_UP) {
         stdout.push_str(&lines::look_up_lines(case));
@@ -58,7 +58,6 @@ pub fn try_game() -> Result<Program, Refusal> {
         stdout.push_str(&lines::field_lines(case));
     }
     let files = cases.into_iter().map(|case| (case.name(), case.file));
-    let list = (LIST.to_string(), list.into_bytes());
     Ok(Program::new(
         "try_game",
         files.chain([list]).collect(),

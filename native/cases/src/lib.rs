@@ -3,4 +3,8 @@
 //! the reference implementation: nothing is taken from a run of a program.
 
 pub mod game;
+pub mod plan;
 pub mod program;
+pub mod writers;
+
+mod text;

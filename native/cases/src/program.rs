@@ -34,9 +34,7 @@ impl Program {
     pub fn committed(&self) -> io::Result<Files> {
         let folder = self.folder();
         let mut paths = vec![PathBuf::from("stdout")];
-        for entry in fs::read_dir(folder.join("data"))? {
-            paths.push(Path::new("data").join(entry?.file_name()));
-        }
+        add_paths(&folder, Path::new("data"), &mut paths)?;
         let read = |path: PathBuf| Ok((path.clone(), fs::read(folder.join(path))?));
         paths.into_iter().map(read).collect()
     }
@@ -48,9 +46,12 @@ impl Program {
         if data.exists() {
             fs::remove_dir_all(&data)?;
         }
-        fs::create_dir_all(&data)?;
         for (path, bytes) in &self.files {
-            fs::write(folder.join(path), bytes)?;
+            let path = folder.join(path);
+            if let Some(parent) = path.parent() {
+                fs::create_dir_all(parent)?;
+            }
+            fs::write(path, bytes)?;
         }
         Ok(())
     }
@@ -59,4 +60,16 @@ impl Program {
         let crates = Path::new(env!("CARGO_MANIFEST_DIR")).join("../../crates");
         crates.join(self.name)
     }
+}
+
+/// Adds the files at and below a path of the program's crate.
+fn add_paths(folder: &Path, path: &Path, paths: &mut Vec<PathBuf>) -> io::Result<()> {
+    if !folder.join(path).is_dir() {
+        paths.push(path.to_path_buf());
+        return Ok(());
+    }
+    for entry in fs::read_dir(folder.join(path))? {
+        add_paths(folder, &path.join(entry?.file_name()), paths)?;
+    }
+    Ok(())
 }

@@ -1,46 +1,15 @@
 //! Safe wrappers over the proved library's exports. Nothing checks these declarations
-//! against the Rattle source, so each is used by the differential test.
+//! against the Rattle source, so each is used by the differential tests.
+
+pub mod plain;
+pub mod timing;
+
+mod exports;
+
+use reference::writer::Fields;
 
 /// A refusal of document 01, 1 to 18.
 pub type Refusal = u8;
-
-pub mod plain;
-
-mod exports {
-    extern "C" {
-        pub fn desk_check_game(
-            game: *const u8,
-            game_len: usize,
-            nodes: *mut u64,
-            sets: *mut u64,
-            root_weight: *mut u64,
-        ) -> u64;
-        pub fn desk_game_fields(
-            game: *const u8,
-            game_len: usize,
-            set_players: *mut u64,
-            set_players_len: usize,
-            set_moves: *mut u64,
-            set_moves_len: usize,
-            kinds: *mut u64,
-            kinds_len: usize,
-            parents: *mut u64,
-            parents_len: usize,
-            moves: *mut u64,
-            moves_len: usize,
-            weights: *mut u64,
-            weights_len: usize,
-            node_sets: *mut u64,
-            node_sets_len: usize,
-            chance_moves: *mut u64,
-            chance_moves_len: usize,
-            payoffs1: *mut i64,
-            payoffs1_len: usize,
-            payoffs2: *mut i64,
-            payoffs2_len: usize,
-        ) -> u64;
-    }
-}
 
 /// N, H and D0 of an accepted game.
 #[derive(Clone, Copy, Debug, PartialEq, Eq)]
@@ -50,7 +19,7 @@ pub struct Counts {
     pub root_weight: u64,
 }
 
-/// One buffer a field, as long as the caller likes.
+/// One list a field: lent for the fields of a game, or given to its writer.
 #[derive(Clone, Debug, PartialEq, Eq)]
 pub struct Buffers {
     pub set_players: Vec<u64>,
@@ -62,6 +31,38 @@ pub struct Buffers {
     pub node_sets: Vec<u64>,
     pub chance_moves: Vec<u64>,
     pub payoffs: [Vec<i64>; 2],
+}
+
+impl Buffers {
+    /// The same fields as the independent implementation holds them.
+    pub fn of(fields: &Fields) -> Buffers {
+        Buffers {
+            set_players: fields.players.clone(),
+            set_moves: fields.set_moves.clone(),
+            kinds: fields.kinds.clone(),
+            parents: fields.parents.clone(),
+            moves: fields.moves.clone(),
+            weights: fields.weights.clone(),
+            node_sets: fields.sets.clone(),
+            chance_moves: fields.chance_moves.clone(),
+            payoffs: fields.payoffs.clone(),
+        }
+    }
+}
+
+/// What is lent for the fields of a plan: D1, D2 and a buffer for the weights.
+#[derive(Clone, Debug, PartialEq, Eq)]
+pub struct PlanBuffers {
+    pub d1: u64,
+    pub d2: u64,
+    pub weights: Vec<u64>,
+}
+
+/// What is lent to a writer: a buffer for the file, and a number for its length.
+#[derive(Clone, Debug, PartialEq, Eq)]
+pub struct Output {
+    pub bytes: Vec<u8>,
+    pub length: u64,
 }
 
 fn answer(number: u64) -> Result<(), Refusal> {
@@ -118,6 +119,73 @@ pub fn game_fields(game: &[u8], buffers: &mut Buffers) -> Result<(), Refusal> {
             payoffs1.len(),
             payoffs2.as_mut_ptr(),
             payoffs2.len(),
+        )
+    };
+    answer(number)
+}
+
+/// D1, D2 and all weights of a plan, in file order: 1 to 16, then 18.
+pub fn plan_fields(game: &[u8], plan: &[u8], buffers: &mut PlanBuffers) -> Result<(), Refusal> {
+    let number = unsafe {
+        exports::desk_plan_fields(
+            game.as_ptr(),
+            game.len(),
+            plan.as_ptr(),
+            plan.len(),
+            &mut buffers.d1,
+            &mut buffers.d2,
+            buffers.weights.as_mut_ptr(),
+            buffers.weights.len(),
+        )
+    };
+    answer(number)
+}
+
+/// Writes a game file: 17, then 18.
+pub fn write_game(root_weight: u64, fields: &Buffers, out: &mut Output) -> Result<(), Refusal> {
+    let [payoffs1, payoffs2] = &fields.payoffs;
+    let number = unsafe {
+        exports::desk_write_game(
+            root_weight,
+            fields.set_players.as_ptr(),
+            fields.set_players.len(),
+            fields.set_moves.as_ptr(),
+            fields.set_moves.len(),
+            fields.kinds.as_ptr(),
+            fields.kinds.len(),
+            fields.parents.as_ptr(),
+            fields.parents.len(),
+            fields.moves.as_ptr(),
+            fields.moves.len(),
+            fields.weights.as_ptr(),
+            fields.weights.len(),
+            fields.node_sets.as_ptr(),
+            fields.node_sets.len(),
+            fields.chance_moves.as_ptr(),
+            fields.chance_moves.len(),
+            payoffs1.as_ptr(),
+            payoffs1.len(),
+            payoffs2.as_ptr(),
+            payoffs2.len(),
+            out.bytes.as_mut_ptr(),
+            out.bytes.len(),
+            &mut out.length,
+        )
+    };
+    answer(number)
+}
+
+/// Writes a plan file, all weights as one list in file order: 17, then 18.
+pub fn write_plan(d1: u64, d2: u64, weights: &[u64], out: &mut Output) -> Result<(), Refusal> {
+    let number = unsafe {
+        exports::desk_write_plan(
+            d1,
+            d2,
+            weights.as_ptr(),
+            weights.len(),
+            out.bytes.as_mut_ptr(),
+            out.bytes.len(),
+            &mut out.length,
         )
     };
     answer(number)

@@ -1,6 +1,9 @@
 //! Checks 1 to 13 in plain Rust by the proved library's own method: the same passes,
 //! the same fixed arrays, records read by value. Only for measuring beside it.
 
+pub mod plan;
+pub mod write;
+
 use crate::{Counts, Refusal};
 
 /// How a bit field is fetched.
@@ -185,14 +188,18 @@ impl Frame<'_> {
         self.last_own_move::<R>(player, node.parent)
     }
 
-    fn player_recalls<R: Reader>(&self, player: u64, starts: &[u64], first: &[u64]) -> bool {
-        let mut own = [0u64; LIMIT];
+    fn own_numbers<R: Reader>(&self, player: u64, starts: &[u64], own: &mut [u64]) {
         for (n, number) in own[..self.nodes].iter_mut().enumerate() {
             *number = match self.last_own_move::<R>(player, n) {
                 Some((set, place)) => starts[set] + place as u64,
                 None => 0,
             };
         }
+    }
+
+    fn player_recalls<R: Reader>(&self, player: u64, starts: &[u64], first: &[u64]) -> bool {
+        let mut own = [0u64; LIMIT];
+        self.own_numbers::<R>(player, starts, &mut own);
         (0..self.nodes).all(|n| {
             let node = self.node::<R>(n);
             node.kind != 1
@@ -201,15 +208,21 @@ impl Frame<'_> {
         })
     }
 
-    fn perfect_recall<R: Reader>(&self) -> bool {
-        let mut starts = [0u64; LIMIT];
-        let mut first = [0u64; LIMIT];
+    /// The first sequence of each set, and how many sequences each player has.
+    fn first_sequences<R: Reader>(&self, starts: &mut [u64]) -> [u64; 2] {
         let mut next = [1u64; 2];
         for (h, start) in starts[..self.sets].iter_mut().enumerate() {
             let (player, moves) = self.set::<R>(h);
             *start = next[player as usize];
             next[player as usize] += moves as u64;
         }
+        next
+    }
+
+    fn perfect_recall<R: Reader>(&self) -> bool {
+        let mut starts = [0u64; LIMIT];
+        let mut first = [0u64; LIMIT];
+        self.first_sequences::<R>(&mut starts);
         self.first_nodes::<R>(&mut first);
         (0..2).all(|player| self.player_recalls::<R>(player, &starts, &first))
     }
@@ -245,8 +258,8 @@ impl Frame<'_> {
     }
 }
 
-/// Checks 1 to 13, with fields fetched by the reader.
-pub fn check_game<R: Reader>(bytes: &[u8]) -> Result<Counts, Refusal> {
+/// The frame of a game that passes checks 1 to 13.
+fn accepted<R: Reader>(bytes: &[u8]) -> Result<Frame<'_>, Refusal> {
     if bytes.len() < 5 {
         return Err(1);
     }
@@ -268,9 +281,15 @@ pub fn check_game<R: Reader>(bytes: &[u8]) -> Result<Counts, Refusal> {
         return Err(4);
     }
     frame.tree::<R>()?;
+    Ok(frame)
+}
+
+/// Checks 1 to 13, with fields fetched by the reader.
+pub fn check_game<R: Reader>(bytes: &[u8]) -> Result<Counts, Refusal> {
+    let frame = accepted::<R>(bytes)?;
     Ok(Counts {
         nodes: frame.nodes as u64,
-        sets: sets as u64,
+        sets: frame.sets as u64,
         root_weight: frame.root_weight,
     })
 }

@@ -4,13 +4,16 @@
 pub mod aim;
 pub mod damage;
 pub mod edit;
+pub mod fields;
 pub mod games;
+pub mod large;
 pub mod named;
 pub mod near;
 pub mod plans;
 pub mod poker;
 pub mod rng;
 pub mod shape;
+pub mod spoil;
 pub mod tables;
 
 mod grouping;

@@ -1,13 +1,13 @@
 -- `bits::field` meets its contract. After i turns the value is the field of i bits: below 2 ^ 63 while a bit is missing, so that twice it and a bit is below 2 ^ 64.
 use Prim.Native.Nat.{ℕ, _+_, _*_, _-_, _^_, _≤_, _<_}
-use mathlib.Core.Path.{_≡_, refl}
+use mathlib.Core.Path.{_≡_}
 use mathlib.Core.List.{List}
 use native.Mathlib.Omega.{arith}
-use native.Mathlib.Numerals.{add-one}
 use lib.Pow.{pow-mono}
 use borrow.Author.Needs.{needs}
-use Rattle.model.specs.Bits.{numeral, bit, field}
+use Rattle.model.specs.Bits.{bit, field}
 use Rattle.model.proofs.Bits.{field-fits}
+use Rattle.bits.proofs.Bytes.{numeral-none, numeral-more}
 use Rattle.bits.proofs.field.Statement.{statement}
 use Rattle.bits.proofs.field.Tie as tie
 
@@ -19,13 +19,13 @@ abbrev μ-loop : tie.MeasureT-loop
 
 -- no bits
 none : (bytes : List ℕ) (at : ℕ) → 0 ≡ field bytes at 0
-unfolding field numeral
-none bytes at = refl
+unfolding field
+none bytes at = numeral-none (bit bytes) at
 
 -- one bit more
 one-more : (bytes : List ℕ) (at i : ℕ) → 2 * field bytes at i + bit bytes (at + i) ≡ field bytes at (i + 1)
-unfolding field numeral
-one-more bytes at i = rw add-one
+unfolding field
+one-more bytes at i = numeral-more (bit bytes) at i
 
 -- there is room for one bit more
 room : (bytes : List ℕ) (at i : ℕ) → i < 64 → 2 * field bytes at i + 1 < 2 ^ 64

@@ -4,7 +4,7 @@ use mathlib.Core.Path.{refl, sym}
 use Rattle.entry.specs.declared.GameAnswer.the-variants.{Refused}
 use Rattle.entry.specs.Answers.{gameAnswer}
 use Rattle.entry.proofs.Answers.{game-is-read}
-use Rattle.entry.proofs.Refusals.{opened, sent, refuses}
+use Rattle.game.proofs.Outcomes.{opened, sent, refuses}
 use Rattle.entry.proofs.check_game.Statement.{statement}
 use Rattle.entry.proofs.check_game.Tie as tie
 

@@ -10,7 +10,8 @@ use Rattle.game.proofs.Headers.{header-nodes, header-records}
 use Rattle.entry.specs.declared.NodeAnswer.the-variants.{Refused}
 use Rattle.entry.specs.Answers.{nodeAnswer}
 use Rattle.entry.proofs.Answers.{node-is-read}
-use Rattle.entry.proofs.Refusals.{Opened, opened, sent, refuses, game-first, number-missing, number-found}
+use Rattle.game.proofs.Outcomes.{Opened, opened, sent, refuses}
+use Rattle.entry.proofs.Refusals.{game-first, number-missing, number-found}
 use Rattle.entry.proofs.node_record.Statement.{statement}
 use Rattle.entry.proofs.node_record.Tie as tie
 

@@ -9,7 +9,8 @@ use Rattle.game.proofs.NodeTests.{few-sets}
 use Rattle.entry.specs.declared.SetAnswer.the-variants.{Refused}
 use Rattle.entry.specs.Answers.{setAnswer}
 use Rattle.entry.proofs.Answers.{set-is-read}
-use Rattle.entry.proofs.Refusals.{Opened, opened, sent, refuses, game-first, number-missing, number-found}
+use Rattle.game.proofs.Outcomes.{Opened, opened, sent, refuses}
+use Rattle.entry.proofs.Refusals.{game-first, number-missing, number-found}
 use Rattle.entry.proofs.set_entry.Statement.{statement}
 use Rattle.entry.proofs.set_entry.Tie as tie
 

@@ -1,7 +1,7 @@
 //! Game files that break no rule.
 
-use super::large::{most_nodes, most_sets};
 use super::{made_for, Case};
+use generator::large::{most_nodes, most_sets};
 use generator::named::{long_path, one_leaf, own_chain, study_game, wide_chance, wide_decision};
 use generator::poker::{kuhn, leduc};
 use generator::tables::{GameTables, Place};
@@ -41,7 +41,7 @@ fn no_sets() -> GameTables {
 /// again in set 0, which so follows a set of larger number. Neither sees the
 /// deal. After player 1's move 1 he moves again in set 3, and after move 1 there
 /// once more in set 4.
-fn chance_game() -> GameTables {
+pub fn chance_game() -> GameTables {
     let mut tables = GameTables::new(12);
     let last = tables.add_set(Player::Two, 2);
     let first = tables.add_set(Player::Two, 2);

@@ -1,9 +1,9 @@
 //! The lines that `try_game` must write, by the reference implementation.
 
 use super::Case;
+use crate::text::{joined, shown};
 use reference::game::{check_game, InfoSet, Kind, Node};
 use reference::writer::fields_of;
-use reference::Refusal;
 
 /// The answer to a file: `accepted` with N, H and D0, or its refusal.
 pub fn check_line(case: &Case) -> String {
@@ -94,13 +94,6 @@ const NAMES: [&str; 10] = [
     "payoffs2",
 ];
 
-fn joined<T>(entries: &[T], text: impl Fn(&T) -> String) -> String {
-    entries
-        .iter()
-        .map(|entry| format!(" {}", text(entry)))
-        .collect()
-}
-
 fn sign(payoff: i64) -> char {
     match payoff.signum() {
         -1 => '-',
@@ -127,13 +120,5 @@ fn record_text(node: &Node) -> String {
         Kind::Leaf { payoffs } => format!("leaf {place} payoffs {} {}", payoffs[0], payoffs[1]),
         Kind::Decision { set } => format!("decision {place} set {set}"),
         Kind::Chance { moves } => format!("chance {place} moves {moves}"),
-    }
-}
-
-/// An answer's text, or the refusal's.
-fn shown<T>(answer: Result<T, Refusal>, text: impl Fn(T) -> String) -> String {
-    match answer {
-        Ok(found) => text(found),
-        Err(refusal) => format!("refusal {refusal}"),
     }
 }

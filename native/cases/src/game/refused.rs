@@ -1,6 +1,5 @@
 //! Game files made for one refusal each, 1 to 13.
 
-use super::large::most_bytes;
 use super::recall::{
     earlier_move_forgotten, last_move_forgotten, longer_with_the_same_end, own_move_or_none,
     set_forgotten,
@@ -10,6 +9,7 @@ use generator::edit::{
     node_field, set_moves, set_player, Field, CHANCE_MOVES, CHANCE_ZEROS, DECISION_SET,
     DECISION_ZEROS, EDITION, KIND, MOVE, NODES, PARENT, ROOT_WEIGHT, SETS, WEIGHT,
 };
+use generator::large::most_bytes;
 use generator::named::{
     long_path, own_chain, set_below_itself, study_game, wide_chance, wide_decision,
 };

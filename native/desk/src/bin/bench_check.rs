@@ -1,37 +1,25 @@
 //! The check of full-size games, beside plain Rust by the same method, in one run.
 
 use desk::plain::{self, BitLoop, Word};
+use desk::timing::best_of;
 use generator::games::random_game;
 use generator::rng::Rng;
 use generator::shape::Shape;
 use std::hint::black_box;
-use std::time::Instant;
 
-const ROUNDS: usize = 60;
-
-/// The best time of a pass over the files, in microseconds a file; the three are taken in turn.
-fn best_of(files: &[Vec<u8>], runs: [fn(&[u8]) -> bool; 3]) -> [f64; 3] {
-    let mut best = [f64::MAX; 3];
-    for _ in 0..ROUNDS {
-        for (run, best) in runs.iter().zip(&mut best) {
-            let start = Instant::now();
-            for file in files {
-                assert!(black_box(run(black_box(file))));
-            }
-            let each = start.elapsed().as_secs_f64() * 1e6 / files.len() as f64;
-            *best = best.min(each);
-        }
+fn accept_all(files: &[Vec<u8>], accepts: fn(&[u8]) -> bool) {
+    for file in files {
+        assert!(black_box(accepts(black_box(file))));
     }
-    best
 }
 
 fn report(name: &str, files: &[Vec<u8>]) {
     let [proved, same, word] = best_of(
-        files,
+        files.len(),
         [
-            |file| desk::check_game(file).is_ok(),
-            |file| plain::check_game::<BitLoop>(file).is_ok(),
-            |file| plain::check_game::<Word>(file).is_ok(),
+            &mut || accept_all(files, |file| desk::check_game(file).is_ok()),
+            &mut || accept_all(files, |file| plain::check_game::<BitLoop>(file).is_ok()),
+            &mut || accept_all(files, |file| plain::check_game::<Word>(file).is_ok()),
         ],
     );
     println!(

@@ -1,7 +1,7 @@
 -- The game's refusal comes first, then 18; with room for each field all buffers are filled.
 use borrow.Author.Needs.{needs}
 use Rattle.game.proofs.Headers.{header-framed, header-sets}
-use Rattle.entry.proofs.Refusals.{Opened, opened, sent}
+use Rattle.game.proofs.Outcomes.{Opened, opened, sent}
 use Rattle.entry.proofs.Buffers.{file-refused, no-room, has-room, all-given}
 use Rattle.entry.proofs.fields.game_fields.Statement.{statement}
 use Rattle.entry.proofs.fields.game_fields.Tie as tie

@@ -1,5 +1,4 @@
 -- All tables hold what they were filled with: the number stored for the set's first node is that of the sequence that leads to it.
-use Prim.Native.Nat.{_<_}
 use mathlib.Core.Path.{_∙_}
 use native.Mathlib.Omega.{arith}
 use borrow.Author.Needs.{needs}
@@ -10,7 +9,7 @@ use Rattle.game.specs.Sets.{firstSequence}
 use Rattle.game.proofs.NodeTests.{few-sets}
 use Rattle.game.proofs.Rooted.{rules-rooted}
 use Rattle.game.proofs.Recalls.{filled}
-use Rattle.game.proofs.Leading.{first-found, leading-number}
+use Rattle.game.proofs.Leading.{read-player, first-found, leading-is}
 use Rattle.game.proofs.lookup.own_sequence.Statement.{statement}
 use Rattle.game.proofs.lookup.own_sequence.Tie as tie
 
@@ -21,7 +20,7 @@ first-nodes-requires c κs =
 
 -- the table of first sequences
 starts : (c : tie.After-first-sequences) → Holds (firstSequence (gameOf (c .before .before .before .args .bytes .now))) (gameOf (c .before .before .before .args .bytes .now) .sets) (c .first-sequences .last .1 .1 .0)
-starts c = filled _ (c .first-sequences .ensures) (omega (arith, few-sets (c .before .before .before .args .bytes .now)))
+starts c = filled _ (c .first-sequences .ensures .0) (omega (arith, few-sets (c .before .before .before .args .bytes .now)))
 
 -- the table of first nodes
 first : (c : tie.After-first-nodes) → Holds (firstNode (gameOf (c .before .before .before .before .before .before .args .bytes .now))) (gameOf (c .before .before .before .before .before .before .args .bytes .now) .sets) (c .first-nodes .last .1 .1 .1 .1 .0)
@@ -33,19 +32,16 @@ own-numbers-requires c κs =
     let r = rules-rooted _ (s .pre .1) in
     (s .pre .0, r, c .before .before .read .ensures .player-fits, omega (arith, s .pre .0 .nodes-is, r .few-nodes), starts (c .before .before .before .before .before .before .before))
 
--- the set's first node is a node
-found : (c : tie.After-index) → c .index .result < gameOf (c .before .before .before .before .before .before .before .before .before .before .before .before .before .args .bytes .now) .nodes
-found c = first-found _ (c .before .before .before .before .before .before .before .before .before .before .before .before .before .pre .1) (first (c .before .before .before .before .before .before .before)) _ (omega arith) (c .index .ensures)
-
--- it is below the arrays' length
-in-own : (c : tie.After-index) → c .index .result < 4095
-in-own c = omega (arith, found c, rules-rooted _ (c .before .before .before .before .before .before .before .before .before .before .before .before .before .pre .1) .few-nodes)
+leading-requires : tie.Need-leading-requires
+leading-requires c κs =
+    let s = c .before .before .before .before .before .before .before .before .before .before .before .before .before .before in
+    (omega (arith, s .pre .2, s .pre .3, few-sets (s .args .bytes .now)), omega (arith, first-found _ (s .pre .1) (first (c .before .before .before .before .before .before .before .before)) (s .args .h) (omega arith), rules-rooted _ (s .pre .1) .few-nodes))
 
 returns : tie.Need-returns
 returns c =
-    let s = c .before .before .before .before .before .before .before .before .before .before .before .before .before in
-    filled _ (c .before .before .own-numbers .ensures) (omega (arith, rules-rooted _ (s .pre .1) .few-nodes)) .at _ (found c)
-    ∙ leading-number _ (s .pre .1) (first (c .before .before .before .before .before .before .before)) _ (omega arith) (c .index .ensures) (c .before .before .before .before .before .read .ensures)
+    let s = c .before .before .before .before .before .before .before .before .before .before .before .before .before .before .before in
+    c .leading .ensures
+    ∙ leading-is _ (s .pre .1) (first (c .before .before .before .before .before .before .before .before .before)) _ (omega arith) (filled _ (c .before .before .before .before .own-numbers .ensures) (omega (arith, rules-rooted _ (s .pre .1) .few-nodes))) (read-player (c .before .before .before .before .before .before .before .read .ensures))
 
 pub own-sequence-spec : {M : Type 1} → statement M
 own-sequence-spec =
@@ -59,9 +55,7 @@ own-sequence-spec =
     (λ c. search needs)
     (λ c. search needs)
     own-numbers-requires
-    (λ c. omega (arith, few-sets (c .before .before .before .before .before .before .before .before .before .before .before .before .args .bytes .now)))
-    (λ c. omega (arith, few-sets (c .before .before .before .before .before .before .before .before .before .before .before .before .args .bytes .now)))
-    (λ c κs. search needs)
-    (λ c. omega (arith, in-own c))
-    in-own
+    (λ c. search needs)
+    (λ c. search needs)
+    leading-requires
     returns)

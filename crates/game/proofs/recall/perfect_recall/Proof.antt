@@ -12,7 +12,7 @@ player-recalls-requires c κs =
       q .1,
       omega arith,
       omega (arith, q .0 .nodes-is, q .1 .few-nodes),
-      filled _ (c .before .before .before .before .before .before .before .first-sequences .ensures) (omega (arith, q .1 .few-sets)),
+      filled _ (c .before .before .before .before .before .before .before .first-sequences .ensures .0) (omega (arith, q .1 .few-sets)),
       filled _ (c .before .before .before .before .first-nodes .ensures) (omega (arith, q .1 .few-sets)),
     )
 

@@ -4,12 +4,12 @@ use mathlib.Core.Path.{_≡_, refl}
 use native.Mathlib.Omega.{arith}
 use borrow.Author.Needs.{needs}
 use lib.ListN.{length, getD}
-use Rattle.model.specs.Game.{gameOf}
+use Rattle.model.specs.Game.{gameOf, one, two}
 use Rattle.game.specs.Answers.{Holds, over}
 use Rattle.game.specs.Sets.{firstSequence}
 use Rattle.game.proofs.Loops.{over-none, over-more}
 use Rattle.game.proofs.NodeTests.{few-sets}
-use Rattle.game.proofs.FirstSequences.{nextNumber, start-small, next-none, next-at, next-add}
+use Rattle.game.proofs.FirstSequences.{nextNumber, start-small, next-none, next-count, next-at, next-add}
 use Rattle.game.proofs.sets.first_sequences.Statement.{statement}
 use Rattle.game.proofs.sets.first_sequences.Tie as tie
 
@@ -36,8 +36,10 @@ loop-again c =
 
 returns : tie.Need-returns Inv-loop μ-loop
 returns c =
-    let e : c .before .loop .h ≡ gameOf (c .before .before .before .before .args .bytes .now) .sets = omega arith in
-    rw e at (c .before .loop .inv .2)
+    let g = gameOf (c .before .before .before .before .args .bytes .now) in
+    let e : c .before .loop .h ≡ g .sets = omega arith in
+    let all : Holds (nextNumber g (g .sets)) 2 (c .before .loop .next) = rw e at (c .before .loop .inv .3) in
+    (rw e at (c .before .loop .inv .2), next-count g one all, next-count g two all)
 
 pub first-sequences-spec : {M : Type 1} → statement M
 first-sequences-spec =
@@ -59,5 +61,7 @@ first-sequences-spec =
     (λ c. search needs)
     (λ c. search needs)
     loop-again
+    (λ c. search needs)
+    (λ c. search needs)
     (λ c. search needs)
     returns)

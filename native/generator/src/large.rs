@@ -1,6 +1,6 @@
 //! Games of 4,095 nodes, and the longest file.
 
-use generator::tables::{GameTables, Place};
+use crate::tables::{GameTables, Place};
 use reference::game::Player;
 
 const MOST_SETS: usize = 4_095;

@@ -1,0 +1,94 @@
+-- A pair that was read, as the entry points give it, and its weights with the buffer for them.
+use Prim.Native.Nat.{ℕ, zero, suc, _+_, _-_, _≤_, _<_}
+use mathlib.Core.Path.{_≡_, refl, ap, _∙_}
+use mathlib.Core.List.{List}
+use native.Mathlib.Omega.{arith}
+use borrow.Author.Tests.{le-leb, lt-leb}
+use lib.Dec.{T}
+use lib.ListN.{length}
+use Rattle.algebra.specs.Arrays.{placed}
+use Rattle.algebra.proofs.Arrays.{placed-first}
+use Rattle.model.specs.Game.{gameOf, one, two}
+use Rattle.model.specs.Sequences.{sequenceCount}
+use Rattle.model.specs.Refusals.{numbers, along}
+use Rattle.model.specs.GameChecks.{gameChecks, headerChecks, treeChecks}
+use Rattle.model.specs.Plan.{planMoves, planPairOf, planWeights}
+use Rattle.model.specs.PlanChecks.{Files, planChecks, pairChecks, pairRefusal}
+use Rattle.model.specs.Calls.{Lent, withRoom, planFieldsChecks, afterCall}
+use Rattle.model.proofs.Refusals.{nonzero}
+use Rattle.game.specs.Answers.{Holds}
+use Rattle.game.specs.declared.SequenceCounts.{SequenceCounts}
+use Rattle.game.proofs.Outcomes.{refuses}
+use Rattle.plan.specs.declared.PairHeader.{PairHeader}
+use Rattle.plan.specs.Header.{denominatorsOf}
+use Rattle.plan.specs.Weights.{weightByNumber}
+use Rattle.plan.specs.Answers.{inFileOrder}
+use Rattle.plan.proofs.Pairs.{PairOpened, pair-counted, file-order}
+use Rattle.entry.specs.declared.PlanAnswer.the-variants.{Fits}
+use Rattle.entry.specs.declared.WeightsAnswer.{WeightsAnswer}
+use Rattle.entry.specs.declared.WeightsAnswer.the-variants.{Given, Refused}
+use Rattle.entry.specs.Plans.{planAnswer, weightsRefusal, weightsAnswer}
+use Rattle.entry.proofs.Refusals.{part-fails, last-fails, none-fails}
+
+-- its denominators are D1 and D2
+pub first-is : (game plan : List ℕ) (h : PairHeader) → PairOpened game plan h → h .denominators .first ≡ planPairOf (gameOf game) plan one .denominator
+unfolding denominatorsOf planPairOf
+first-is game plan h o = rw (o .denominators)
+
+pub second-is : (game plan : List ℕ) (h : PairHeader) → PairOpened game plan h → h .denominators .second ≡ planPairOf (gameOf game) plan two .denominator
+unfolding denominatorsOf planPairOf
+second-is game plan h o = rw (o .denominators)
+
+pub plan-is-read : (game plan : List ℕ) (h : PairHeader) → PairOpened game plan h → Fits (h .denominators .first) (h .denominators .second) ≡ planAnswer (pairRefusal game plan) game plan
+plan-is-read game plan h o = rw (o .none, first-is game plan h o, second-is game plan h o)
+
+-- no check of a pair has the number 0
+pub some-pair : T (nonzero (numbers pairChecks))
+unfolding numbers along pairChecks planChecks gameChecks headerChecks treeChecks
+some-pair = tt
+
+-- The call for all weights.
+module _ (game plan buffer : List ℕ) where
+  abbrev room : ℕ
+  room = length buffer
+
+  -- the answer and the buffer afterwards
+  abbrev pub Result : WeightsAnswer → List ℕ → Type 0
+  Result r after = (r ≡ weightsAnswer (weightsRefusal game plan room) game plan) × (after ≡ afterCall (weightsRefusal game plan room) (planWeights (gameOf game) plan) buffer)
+
+  kept-is : {r : ℕ} → weightsRefusal game plan room ≡ r → ¬ (r ≡ 0) → Result (Refused r) buffer
+  unfolding afterCall
+  kept-is {r} e n = (refuses (λ k. weightsAnswer k game plan) Refused (λ k. refl) e n, go r e n)
+    where
+      go : (r : ℕ) → weightsRefusal game plan room ≡ r → ¬ (r ≡ 0) → buffer ≡ afterCall (weightsRefusal game plan room) (planWeights (gameOf game) plan) buffer
+      go zero e n = absurd (n refl)
+      go (suc r) e n = rw e
+
+  -- the pair's own refusal
+  pub pair-refused : {r : ℕ} → r ≡ pairRefusal game plan → ¬ (r ≡ 0) → Result (Refused r) buffer
+  unfolding pairRefusal planFieldsChecks withRoom
+  pair-refused e n = kept-is (part-fails pairChecks some-pair (λ (c : Lent Files). c .input) 18 _ _ e n) n
+
+  -- a buffer too short
+  pub no-room : pairRefusal game plan ≡ 0 → room < planMoves (gameOf game) → Result (Refused 18) buffer
+  unfolding pairRefusal planFieldsChecks withRoom
+  no-room e l = kept-is (last-fails pairChecks some-pair (λ (c : Lent Files). c .input) 18 _ _ e (rw (lt-leb (planMoves (gameOf game)) room l))) (λ z. omega arith)
+
+  free : pairRefusal game plan ≡ 0 → planMoves (gameOf game) ≤ room → weightsRefusal game plan room ≡ 0
+  unfolding pairRefusal planFieldsChecks withRoom
+  free e l = none-fails pairChecks some-pair (λ (c : Lent Files). c .input) 18 _ _ e (rw (le-leb (planMoves (gameOf game)) room l))
+
+  -- as many weights as there are moves
+  pub weights-counted : {h : PairHeader} → PairOpened game plan h → {n : ℕ} → n ≡ (h .counts .first - 1) + (h .counts .second - 1) → n ≡ planMoves (gameOf game)
+  unfolding planMoves sequenceCount
+  weights-counted o e = let c = pair-counted game plan o in omega (arith, e, c .is1, c .is2)
+
+  -- all weights given
+  pub all-given : (h : PairHeader) (o : PairOpened game plan h) {x y : List ℕ} {n : ℕ} {after : List ℕ} → Holds (weightByNumber (gameOf game) plan one) (sequenceCount (gameOf game) one) x → Holds (weightByNumber (gameOf game) plan two) (sequenceCount (gameOf game) two) y → n ≡ (h .counts .first - 1) + (h .counts .second - 1) → n ≤ room → after ≡ placed 0 (inFileOrder (h .counts) x y) buffer → Result (Given (h .denominators .first) (h .denominators .second) n) after
+  unfolding afterCall
+  all-given h o {x} {y} held1 held2 e l f =
+      let count = weights-counted o e in
+      let none = free (o .none) (omega arith) in
+      let w = planWeights (gameOf game) plan in
+      let order : inFileOrder (h .counts) x y ≡ w = ap (λ (n : SequenceCounts). inFileOrder n x y) (o .counts) ∙ file-order (gameOf game) plan x y held1 held2 in
+      (rw (none, first-is game plan h o, second-is game plan h o, count), f ∙ rw (none, order) (placed-first w buffer))

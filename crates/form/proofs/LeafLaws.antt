@@ -1,0 +1,196 @@
+-- The slices of leaves tied to the game: their sums are the model's, and no sum over them leaves its range.
+use Prim.Native.Nat.{ℕ, _≤_, _<_}
+use mathlib.Core.Path.{_≡_, sym, ap, _∙_}
+use mathlib.Core.Bool.{Bool, _&&_}
+use mathlib.Core.List.{List, map}
+use native.Mathlib.Omega.{arith}
+use lib.ListN.{length}
+use lib.Dec.{T, eqb, eqb→eq}
+use lib.IntN.{ℤ, pos}
+use mir.Syntax.{w64}
+use mir.Val.{SFits}
+use Rattle.algebra.specs.Arrays.{placed}
+use Rattle.algebra.specs.Bounded.{sumTo, sumWhere, anyTo}
+use Rattle.algebra.proofs.Tests.{dec, bool-same, eqb-make}
+use Rattle.algebra.proofs.Searches.{anyTo-find, anyTo-make}
+use Rattle.algebra.proofs.Sums.{onlyZ, onlyZ-and, sum-cong, whereZ-is, where-tests, where-none}
+use mir.Facts.{and-yes}
+use Rattle.model.specs.Game.{Game, Player, one, two, other, isLeaf}
+use Rattle.model.specs.Sequences.{Sequence, same, ownSequence, sequenceNumber, sequenceCount}
+use Rattle.model.specs.Plan.{RealizationPlan, PlanPair, weightAt}
+use Rattle.model.specs.Table.{ownNumber}
+use Rattle.model.specs.Earnings.{leafTerm, valueTerm, valueCount}
+use Rattle.model.specs.BestResponse.{leavesWorth}
+use Rattle.model.specs.Demand1.{GameRules}
+use Rattle.model.specs.Demand2.{ByNumber}
+use Rattle.model.specs.Writing.{entry, entryZ}
+use Rattle.model.proofs.Budget.{GameLimits, Budget}
+use Rattle.model.proofs.Numbers.{number-below, number-same, own-number-below}
+use Rattle.model.proofs.Sequences.{same→eq, eq→same}
+use Rattle.model.proofs.Tree.{IsSequence, own-sequence}
+use Rattle.game.specs.Answers.{Holds, over}
+use Rattle.game.proofs.Loops.{over-at}
+use Rattle.plan.specs.Weights.{planByNumber, Weights}
+use Rattle.plan.proofs.ByNumber.{weight-at}
+use Rattle.form.specs.Leaves.{leavesOf, leafOf, Column, Gathered, PlayerLeaves, ofPlayer, opponentTerm, sumAt, pairTerm, pairSumTo, SumsReady, ValueReady}
+use Rattle.form.proofs.Gathering.{all-few}
+use Rattle.form.proofs.LeafSums.{leaves-sum, leaves-prefix, leaf-in, column-is}
+
+-- what `gather` ensures
+pub gathered : (g : Game) → g .nodes ≤ 4095 → {count : ℕ} {first second chance : List ℕ} {payoffs1 payoffs2 : List ℤ} (first₀ second₀ chance₀ : List ℕ) (payoffs1₀ payoffs2₀ : List ℤ) → (count ≡ length (leavesOf g)) × (first ≡ placed 0 (map (ownNumber g one) (leavesOf g)) first₀) × (second ≡ placed 0 (map (ownNumber g two) (leavesOf g)) second₀) × (chance ≡ placed 0 (map (g .weight) (leavesOf g)) chance₀) × (payoffs1 ≡ placed 0 (map (g .payoff one) (leavesOf g)) payoffs1₀) × (payoffs2 ≡ placed 0 (map (g .payoff two) (leavesOf g)) payoffs2₀) → 4095 ≤ length first₀ → 4095 ≤ length second₀ → 4095 ≤ length chance₀ → 4095 ≤ length payoffs1₀ → 4095 ≤ length payoffs2₀ → Gathered g count first second chance payoffs1 payoffs2
+gathered g few first₀ second₀ chance₀ payoffs1₀ payoffs2₀ e a b c d h = record {
+  counted = e .0;
+  first-is = column-is g (ownNumber g one) first₀ _ (e .1) (omega (arith, all-few g));
+  second-is = column-is g (ownNumber g two) second₀ _ (e .2) (omega (arith, all-few g));
+  chance-is = column-is g (g .weight) chance₀ _ (e .3) (omega (arith, all-few g));
+  payoffs1-is = column-is g (g .payoff one) payoffs1₀ _ (e .4) (omega (arith, all-few g));
+  payoffs2-is = column-is g (g .payoff two) payoffs2₀ _ (e .5) (omega (arith, all-few g));
+}
+
+-- each player's part of them
+pub player-leaves : (g : Game) (p : Player) {count : ℕ} {first second chance : List ℕ} {payoffs1 payoffs2 : List ℤ} → Gathered g count first second chance payoffs1 payoffs2 → PlayerLeaves g p count (ofPlayer p first second) (ofPlayer (other p) first second) chance (ofPlayer p payoffs1 payoffs2)
+player-leaves g one L = record { counted = L .counted; own-is = L .first-is; opponent-is = L .second-is; chance-is = L .chance-is; payoffs-is = L .payoffs1-is }
+player-leaves g two L = record { counted = L .counted; own-is = L .second-is; opponent-is = L .first-is; chance-is = L .chance-is; payoffs-is = L .payoffs2-is }
+
+-- a column of p's sequence numbers
+column-below : (g : Game) → GameRules g → (p : Player) {l : List ℕ} → Column g (ownNumber g p) l → (k : ℕ) → k < length (leavesOf g) → entry l k < sequenceCount g p
+column-below g R p C k v = rw (C .at 0 k v) (own-number-below g R p (leafOf g k) (leaf-in g k v))
+
+-- an array that holds weights by number has them at the numbers of own sequences
+pub held-by-number : (g : Game) → GameRules g → (p : Player) (plan : RealizationPlan) (f : ℕ → ℕ) {x : List ℕ} → ByNumber g p plan f → Holds f (sequenceCount g p) x → ByNumber g p plan (entry x)
+held-by-number g R p plan f N held n l = held .at (ownNumber g p n) (own-number-below g R p n l) ∙ N n l
+
+-- and a plan that is given by number has them
+pub plan-by-number : (g : Game) (p : Player) (f : ℕ → ℕ) → ByNumber g p (planByNumber g p f) f
+unfolding ownNumber
+plan-by-number g p f n l = sym (weight-at g p f (ownSequence g p n))
+
+-- A player's leaves by the number of his own sequence, against the opponent's plan.
+module _ (g : Game) (R : GameRules g) (p : Player) (plan : RealizationPlan) where
+  -- what node n counts at the sequence with number s
+  abbrev numbered : (s n : ℕ) → ℤ
+  numbered s n = onlyZ (eqb (ownNumber g p n) s) (leafTerm g p plan n)
+
+  -- the test of the number, and of the sequence
+  tests : (r : Sequence) → IsSequence g p r → (n : ℕ) → n < g .nodes → eqb (ownNumber g p n) (sequenceNumber g p r) ≡ same (ownSequence g p n) r
+  unfolding ownNumber
+  tests r S n l =
+      bool-same (eqb (ownNumber g p n) (sequenceNumber g p r)) (same (ownSequence g p n) r)
+      (λ t. eq→same (ownSequence g p n) r (number-same g p (ownSequence g p n) r (own-sequence g R p n l) S (eqb→eq _ _ t)))
+      (λ t. eqb-make (ownNumber g p n) (sequenceNumber g p r) (ap (sequenceNumber g p) (same→eq (ownSequence g p n) r t)))
+
+  at-number : (m s : ℕ) → sumWhere m (isLeaf g) (numbered s) ≡ sumWhere m (λ n. isLeaf g n && eqb (ownNumber g p n) s) (leafTerm g p plan)
+  at-number m s =
+      whereZ-is m (isLeaf g) (numbered s)
+      ∙ sum-cong m _ _ (λ n v. onlyZ-and (isLeaf g n) (eqb (ownNumber g p n) s) (leafTerm g p plan n))
+      ∙ sym (whereZ-is m (λ n. isLeaf g n && eqb (ownNumber g p n) s) (leafTerm g p plan))
+
+  at-sequence : (r : Sequence) → IsSequence g p r → (m : ℕ) → m ≤ g .nodes → sumWhere m (isLeaf g) (numbered (sequenceNumber g p r)) ≡ sumWhere m (λ n. isLeaf g n && same (ownSequence g p n) r) (leafTerm g p plan)
+  at-sequence r S m l = at-number m (sequenceNumber g p r) ∙ where-tests m _ _ (leafTerm g p plan) (λ n v. ap (λ (b : Bool). isLeaf g n && b) (tests r S n (omega arith)))
+
+  -- whatever the number, the sum is in range where the model's are: a number that no node has counts nothing
+  numbered-fits : ((r : Sequence) (m : ℕ) → m ≤ g .nodes → SFits w64 (sumWhere m (λ n. isLeaf g n && same (ownSequence g p n) r) (leafTerm g p plan))) → (s m : ℕ) → m ≤ g .nodes → SFits w64 (sumWhere m (isLeaf g) (numbered s))
+  unfolding ownNumber
+  numbered-fits B s m l = go (dec (anyTo (g .nodes) (λ n. eqb (ownNumber g p n) s)))
+    where
+      go : Dec (T (anyTo (g .nodes) (λ n. eqb (ownNumber g p n) s))) → SFits w64 (sumWhere m (isLeaf g) (numbered s))
+      go (yes t) =
+          let f = anyTo-find (g .nodes) (λ n. eqb (ownNumber g p n) s) t in
+          let r = ownSequence g p (f .0) in
+          let e : s ≡ sequenceNumber g p r = sym (eqb→eq (ownNumber g p (f .0)) s (f .2)) in
+          rw (e, at-sequence r (own-sequence g R p (f .0) (f .1)) m l) (B r m l)
+      go (no t) =
+          rw (at-number m s, where-none m (λ n. isLeaf g n && eqb (ownNumber g p n) s) (leafTerm g p plan) (λ n v u. t (anyTo-make (g .nodes) (λ n. eqb (ownNumber g p n) s) n (omega arith) (and-yes (isLeaf g n) (eqb (ownNumber g p n) s) u .1))))
+          (record { sfits = omega arith })
+
+-- They stand in slices, and y has the plan's weights by number.
+module _ (g : Game) (R : GameRules g) (p : Player) (plan : RealizationPlan) {count : ℕ} {own opponent chance : List ℕ} {payoffs : List ℤ} (y : List ℕ) (L : PlayerLeaves g p count own opponent chance payoffs) (N : ByNumber g (other p) plan (entry y)) where
+  -- a place counts what its leaf does
+  term-is : (k : ℕ) → k < count → opponentTerm opponent chance payoffs y k ≡ leafTerm g p plan (leafOf g k)
+  unfolding opponentTerm leafTerm weightAt
+  term-is k l =
+      let v : k < length (leavesOf g) = omega (arith, L .counted) in
+      rw (L .chance-is .at 0 k v, L .opponent-is .at 0 k v, L .payoffs-is .at (pos 0) k v, N (leafOf g k) (leaf-in g k v))
+
+  prefix-is : (j s : ℕ) → j ≤ count → sumAt opponent chance payoffs y own j s ≡ sumTo j (λ k. numbered g R p plan s (leafOf g k))
+  unfolding sumAt sumWhere
+  prefix-is j s l = sum-cong j _ _ (λ k v. let u : k < length (leavesOf g) = omega (arith, L .counted) in rw (L .own-is .at 0 k u, term-is k (omega arith)))
+
+  -- the sum at a sequence's number is what its leaves are worth
+  pub sum-is : (r : Sequence) → IsSequence g p r → sumAt opponent chance payoffs y own count (sequenceNumber g p r) ≡ leavesWorth g p plan r
+  unfolding leavesWorth
+  sum-is r S =
+      let s = sequenceNumber g p r in
+      prefix-is count s (omega arith)
+      ∙ ap (λ (n : ℕ). sumTo n (λ k. numbered g R p plan s (leafOf g k))) (L .counted)
+      ∙ leaves-sum g (numbered g R p plan s)
+      ∙ at-sequence g R p plan r S (g .nodes) (omega arith)
+
+  -- so an array that is filled with the sums has it at each sequence's number
+  pub sums-at : {out : List ℤ} (before : List ℤ) → out ≡ over (sumAt opponent chance payoffs y own count) (sequenceCount g p) before → (r : Sequence) → IsSequence g p r → entryZ out (sequenceNumber g p r) ≡ leavesWorth g p plan r
+  sums-at before e r S = rw e (over-at (pos 0) _ (sequenceCount g p) before (sequenceNumber g p r) (number-below g p r S) ∙ sum-is r S)
+
+  partial-fits : ((r : Sequence) (m : ℕ) → m ≤ g .nodes → SFits w64 (sumWhere m (λ n. isLeaf g n && same (ownSequence g p n) r) (leafTerm g p plan))) → (j s : ℕ) → j ≤ count → SFits w64 (sumAt opponent chance payoffs y own j s)
+  partial-fits B j s l =
+      let r = leaves-prefix g (numbered g R p plan s) j (omega (arith, L .counted)) in
+      rw (prefix-is j s l, r .2) (numbered-fits g R p plan B s (r .0) (r .1))
+
+-- What `sums` requires of the slices holds, for a player's leaves and weights of the opponent by number.
+pub sums-ready : (g : Game) → GameRules g → GameLimits g → (q : PlanPair) → Budget g q → (p : Player) {count : ℕ} {own opponent chance : List ℕ} {payoffs : List ℤ} {y : List ℕ} → PlayerLeaves g p count own opponent chance payoffs → Weights g (other p) y → ByNumber g (other p) (q (other p)) (entry y) → SumsReady count (sequenceCount g p) own opponent chance payoffs y
+sums-ready g R M q B p {count} {own} {opponent} {chance} {payoffs} {y} L W N = record {
+  own-long = omega (arith, L .counted, L .own-is .long);
+  opponent-long = omega (arith, L .counted, L .opponent-is .long);
+  chance-long = omega (arith, L .counted, L .chance-is .long);
+  payoffs-long = omega (arith, L .counted, L .payoffs-is .long);
+  own-below = λ k l. column-below g R p (L .own-is) k (in-all k l);
+  opponent-below = λ k l. omega (arith, W .long, facing k l);
+  chance-small = λ k l. rw (L .chance-is .at 0 k (in-all k l)) (M .weights (leafOf g k));
+  weight-small = λ k l. W .small (entry opponent k) (facing k l);
+  fit = λ n s l. partial-fits g R p (q (other p)) y L N (λ r m v. B .leaves p r m v) n s l;
+}
+  where
+    in-all : (k : ℕ) → k < count → k < length (leavesOf g)
+    in-all k l = omega (arith, L .counted)
+
+    facing : (k : ℕ) → k < count → entry opponent k < sequenceCount g (other p)
+    facing k l = column-below g R (other p) (L .opponent-is) k (in-all k l)
+
+-- All leaves against a pair of plans, whose weights x and y have by number.
+module _ (g : Game) (R : GameRules g) (q : PlanPair) {count : ℕ} {first second chance : List ℕ} {payoffs1 payoffs2 : List ℤ} (x y : List ℕ) (L : Gathered g count first second chance payoffs1 payoffs2) (N1 : ByNumber g one (q one) (entry x)) (N2 : ByNumber g two (q two) (entry y)) (p : Player) where
+  -- p's payoffs
+  payoffs-are : Column g (g .payoff p) (ofPlayer p payoffs1 payoffs2)
+  payoffs-are = player-leaves g p L .payoffs-is
+
+  -- a place counts what its leaf does
+  pair-is : (k : ℕ) → k < count → pairTerm first second chance (ofPlayer p payoffs1 payoffs2) x y k ≡ valueTerm g q p (leafOf g k)
+  unfolding pairTerm valueTerm weightAt
+  pair-is k l =
+      let v : k < length (leavesOf g) = omega (arith, L .counted) in
+      rw (L .chance-is .at 0 k v, L .first-is .at 0 k v, L .second-is .at 0 k v, payoffs-are .at (pos 0) k v, N1 (leafOf g k) (leaf-in g k v), N2 (leafOf g k) (leaf-in g k v))
+
+  pairs-are : (j : ℕ) → j ≤ count → pairSumTo first second chance (ofPlayer p payoffs1 payoffs2) x y j ≡ sumTo j (λ k. valueTerm g q p (leafOf g k))
+  unfolding pairSumTo
+  pairs-are j l = sum-cong j _ _ (λ k v. pair-is k (omega arith))
+
+  -- their sum is p's value, over D0 × D1 × D2
+  pub value-is : pairSumTo first second chance (ofPlayer p payoffs1 payoffs2) x y count ≡ valueCount g q p
+  unfolding valueCount
+  value-is = pairs-are count (omega arith) ∙ ap (λ (n : ℕ). sumTo n (λ k. valueTerm g q p (leafOf g k))) (L .counted) ∙ leaves-sum g (valueTerm g q p)
+
+  -- what `value` requires of the slices holds
+  pub value-ready : GameLimits g → Budget g q → Weights g one x → Weights g two y → ValueReady count first second chance (ofPlayer p payoffs1 payoffs2) x y
+  value-ready M B W1 W2 = record {
+    first-long = omega (arith, L .counted, L .first-is .long);
+    second-long = omega (arith, L .counted, L .second-is .long);
+    chance-long = omega (arith, L .counted, L .chance-is .long);
+    payoffs-long = omega (arith, L .counted, payoffs-are .long);
+    first-below = λ k l. omega (arith, W1 .long, column-below g R one (L .first-is) k (in-all k l));
+    second-below = λ k l. omega (arith, W2 .long, column-below g R two (L .second-is) k (in-all k l));
+    chance-small = λ k l. rw (L .chance-is .at 0 k (in-all k l)) (M .weights (leafOf g k));
+    first-small = λ k l. W1 .small (entry first k) (column-below g R one (L .first-is) k (in-all k l));
+    second-small = λ k l. W2 .small (entry second k) (column-below g R two (L .second-is) k (in-all k l));
+    fit = λ n l. let r = leaves-prefix g (valueTerm g q p) n (omega (arith, L .counted)) in rw (pairs-are n l, r .2) (B .value p (r .0) (r .1));
+  }
+    where
+      in-all : (k : ℕ) → k < count → k < length (leavesOf g)
+      in-all k l = omega (arith, L .counted)

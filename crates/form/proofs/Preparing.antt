@@ -1,0 +1,68 @@
+-- What is prepared of a game for one player: how the arrays come to hold it, and what it says of his sets.
+use Prim.Native.Nat.{ℕ, _+_, _<_}
+use mathlib.Core.Path.{_≡_, refl, ap, _∙_}
+use mathlib.Core.Bool.{Bool, cond}
+use mathlib.Core.List.{List}
+use native.Mathlib.Omega.{arith}
+use lib.Dec.{T, eqb}
+use Rattle.algebra.proofs.Tests.{dec, cond-yes, cond-no}
+use Rattle.model.specs.Game.{Game, Player, one, two, samePlayer, playerBit, owns, movesBefore}
+use Rattle.model.specs.Sequences.{extended, firstNode, leading, moveNumber, sequenceNumber, sequenceCount}
+use Rattle.model.specs.Writing.{entry}
+use Rattle.model.proofs.Sequences.{number-extended}
+use Rattle.model.proofs.Tree.{owner}
+use Rattle.game.specs.Answers.{Holds}
+use Rattle.game.specs.Columns.{playerField}
+use Rattle.game.specs.Sets.{firstSequence}
+use Rattle.form.specs.Chains.{firstFrom, nextOf}
+use Rattle.form.specs.Sets.{leadNumber, ownLead}
+use Rattle.form.specs.Prepared.{ownLeadNumber, Prepared}
+
+-- the bit of a set's player tells whether it is p's
+bit-tells : (p r : Player) → eqb (playerBit r) (playerBit p) ≡ samePlayer p r
+bit-tells one one = refl
+bit-tells one two = refl
+bit-tells two one = refl
+bit-tells two two = refl
+
+-- What the functions that gather and chain leave in their arrays is what is to be prepared.
+pub prepared : (g : Game) (p : Player) {players leads head next lead start count node : List ℕ} → Holds (playerField g) (g .sets) players → Holds (leadNumber g) (g .sets) leads → Holds (ownLead players leads (playerBit p) (sequenceCount g p)) (g .sets) lead → Holds (λ s. firstFrom lead (g .sets) s 0) (sequenceCount g p) head → Holds (nextOf lead (g .sets) (sequenceCount g p)) (g .sets) next → Holds (firstSequence g) (g .sets) start → Holds (g .setMoves) (g .sets) count → Holds (firstNode g) (g .sets) node → Prepared g p head next lead start count node
+unfolding ownLead ownLeadNumber playerField owns
+prepared g p A B C D E F H K = record {
+  head-holds = D;
+  next-holds = E;
+  lead-holds = record {
+    long = C .long;
+    at = λ h l. C .at h l ∙ rw (A .at h l, B .at h l) (ap (λ (b : Bool). cond b (leadNumber g h) (sequenceCount g p)) (bit-tells p (g .setPlayer h)));
+  };
+  start-holds = F;
+  count-holds = H;
+  node-holds = K;
+}
+
+module _ {g : Game} {p : Player} {head next lead start count node : List ℕ} (P : Prepared g p head next lead start count node) where
+  -- what leads to a set of p's
+  pub lead-own : (h : ℕ) → h < g .sets → T (owns g p h) → entry lead h ≡ sequenceNumber g p (leading g h)
+  unfolding ownLeadNumber leadNumber
+  lead-own h l o =
+      P .lead-holds .at h l
+      ∙ cond-yes (owns g p h) (leadNumber g h) (sequenceCount g p) o
+      ∙ ap (λ (r : Player). sequenceNumber g r (leading g h)) (owner g p h o)
+
+  -- is no sequence of his at the other's
+  pub lead-other : (h : ℕ) → h < g .sets → ¬ T (owns g p h) → entry lead h ≡ sequenceCount g p
+  unfolding ownLeadNumber
+  lead-other h l o = P .lead-holds .at h l ∙ cond-no (owns g p h) (leadNumber g h) (sequenceCount g p) o
+
+  -- so a set that a sequence of his leads to is his
+  pub owned : (h : ℕ) → h < g .sets → entry lead h < sequenceCount g p → T (owns g p h)
+  owned h l b =
+      elim (dec (owns g p h)) [
+        | yes o ↦ o
+        | no o ↦ absurd (omega (arith, lead-other h l o))
+      ]
+
+  -- the number of a move
+  pub move-at : (h m : ℕ) → h < g .sets → T (owns g p h) → entry start h + m ≡ sequenceNumber g p (extended (leading g h) h m)
+  unfolding firstSequence moveNumber
+  move-at h m l o = omega (arith, P .start-holds .at h l, ap (λ (r : Player). movesBefore g r h) (owner g p h o), number-extended g p (leading g h) h m)

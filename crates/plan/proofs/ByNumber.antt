@@ -1,0 +1,108 @@
+-- Weights by the numbers of sequences are the plan's.
+use Prim.Native.Nat.{ℕ, zero, suc, _+_, _*_, _≤_, _<_}
+use mathlib.Core.Path.{_≡_, refl, sym, ap, _∙_}
+use mathlib.Core.Bool.{Bool, true, false}
+use mathlib.Core.List.{List, [], _∷_}
+use native.Mathlib.Omega.{arith}
+use lib.ListN.{length}
+use lib.Dec.{T, eqb}
+use Rattle.algebra.specs.Bounded.{implies}
+use Rattle.algebra.proofs.Counts.{count-cong}
+use Rattle.algebra.proofs.Searches.{allTo-cong}
+use Rattle.model.specs.Game.{Game, Player, one, two, owns, movesBefore}
+use Rattle.model.specs.Sequences.{Move, Sequence, byLastMove, leading, moveNumber, sequenceNumber, sequenceCount}
+use Rattle.model.specs.Plan.{sequenceWeight, balanced, fits, pairFits, weightsBefore, weightPlace, weightBit, planPairOf}
+use Rattle.model.specs.Demand1.{GameRules}
+use Rattle.model.specs.Demand2.{ByNumber}
+use Rattle.model.specs.Table.{ownNumber}
+use Rattle.model.specs.Writing.{entry}
+use Rattle.model.proofs.Bits.{field-fits}
+use Rattle.model.proofs.Budget.{plan-limits}
+use Rattle.model.proofs.Numbers.{moves-block, number-below}
+use Rattle.model.proofs.Tree.{leading-sequence}
+use Rattle.game.specs.declared.Checked.{Checked}
+use Rattle.game.specs.Answers.{checkedOf, Holds, over}
+use Rattle.game.proofs.Recalls.{filled}
+use Rattle.plan.specs.Weights.{weightsFrom, weightByNumber, planByNumber, pairByNumber, Weights}
+
+-- the weight of a sequence, in a plan whose weights go by number, is that of its number
+pub weight-at : (g : Game) (p : Player) (x : ℕ → ℕ) (s : Sequence) → sequenceWeight (planByNumber g p x) s ≡ x (sequenceNumber g p s)
+unfolding sequenceWeight sequenceNumber planByNumber byLastMove
+weight-at g p x s = go 0 s
+  where
+    go : (n : ℕ) (s : Sequence) → byLastMove (x n) (λ (last : Move). x (moveNumber g p (last .0, last .1))) s ≡ x (byLastMove n (moveNumber g p) s)
+    go n [] = refl
+    go n (a ∷ s) = go (moveNumber g p a) s
+
+module _ (g : Game) (plan : List ℕ) (p : Player) where
+  -- the plan that the file gives p has the file's weights by number
+  pub plan-is : planPairOf g plan p ≡ planByNumber g p (weightByNumber g plan p)
+  unfolding planPairOf planByNumber weightByNumber weightsFrom weightBit weightPlace moveNumber
+  plan-is =
+      let same : (h m : ℕ) → planPairOf g plan p .moveWeight h m ≡ weightByNumber g plan p (moveNumber g p (h, m)) = λ h m.
+      let next : 1 + movesBefore g p h + m ≡ suc (movesBefore g p h + m) = omega arith in
+      let place : weightsBefore g p + movesBefore g p h + m ≡ weightsBefore g p + (movesBefore g p h + m) = omega arith in
+      rw (next, place) in
+      λ i. record { denominator = planPairOf g plan p .denominator; moveWeight = λ h m. same h m i }
+
+  -- so these are the weights of its sequences
+  pub weight-is : (s : Sequence) → weightByNumber g plan p (sequenceNumber g p s) ≡ sequenceWeight (planPairOf g plan p) s
+  weight-is s = rw plan-is (sym (weight-at g p (weightByNumber g plan p) s))
+
+  -- by the number of the own sequence to a node
+  pub by-number : ByNumber g p (planPairOf g plan p) (weightByNumber g plan p)
+  unfolding ownNumber
+  by-number n l = weight-is _
+
+  -- by the number of a move
+  pub move-weight-is : (h m : ℕ) → weightByNumber g plan p (moveNumber g p (h, m)) ≡ planPairOf g plan p .moveWeight h m
+  unfolding planByNumber
+  move-weight-is h m = rw plan-is
+
+  -- an array that is filled with the weights from the place where p's begin
+  pub by-number-from : {denominator before moves : ℕ} {x : List ℕ} (l : List ℕ) → x ≡ over (weightsFrom plan denominator before) (1 + moves) l → denominator ≡ planPairOf g plan p .denominator → before ≡ weightsBefore g p → moves ≡ movesBefore g p (g .sets) → x ≡ over (weightByNumber g plan p) (sequenceCount g p) l
+  unfolding weightByNumber sequenceCount
+  by-number-from l e d b m = e ∙ rw (d, b, m)
+
+  -- each is a number of 12 bits, which 16 hold
+  pub small-number : (n : ℕ) → weightByNumber g plan p n ≤ 65535
+  unfolding weightByNumber weightsFrom
+  small-number zero = plan-limits g plan p .denominator
+  small-number (suc k) = omega (arith, field-fits plan (32 + 12 * (weightsBefore g p + k)) 12)
+
+  -- an array that is filled with them
+  pub filled-weights : {x : List ℕ} (l : List ℕ) → x ≡ over (weightByNumber g plan p) (sequenceCount g p) l → sequenceCount g p ≤ length l → Weights g p x
+  filled-weights l e b = let held = filled l e b in record { long = held .long; small = λ i v. rw (held .at i v) (small-number i) }
+
+-- A plan whose weights by number are an array's, and one whose weights are those that the array holds.
+module _ (g : Game) (rules : GameRules g) (p : Player) (f : ℕ → ℕ) {x : List ℕ} (held : Holds f (sequenceCount g p) x) where
+  -- both are balanced alike at p's sets
+  same-balance : (h : ℕ) → h < g .sets → T (owns g p h) → balanced g (planByNumber g p (entry x)) h ≡ balanced g (planByNumber g p f) h
+  unfolding balanced planByNumber moveNumber sequenceCount
+  same-balance h l o =
+      rw (weight-at g p (entry x) (leading g h), weight-at g p f (leading g h), held .at _ (number-below g p (leading g h) (leading-sequence g rules p h l o)))
+      (ap (λ (k : ℕ). eqb k (f (sequenceNumber g p (leading g h)))) (count-cong (g .setMoves h) _ _ (λ m v. held .at (1 + movesBefore g p h + m) (omega (arith, moves-block g p h (g .sets) l o)))))
+
+  -- so both fit, or neither
+  pub same-fits : fits g p (planByNumber g p (entry x)) ≡ fits g p (planByNumber g p f)
+  unfolding fits implies
+  same-fits = allTo-cong (g .sets) _ _ (λ h l. go (owns g p h) (λ o. same-balance h l o))
+    where
+      go : (b : Bool) {m n : Bool} → (T b → m ≡ n) → implies b m ≡ implies b n
+      go true e = e tt
+      go false e = refl
+
+-- Check 16 of a plan file, by the arrays that its weights were put into.
+module _ (g : Game) (rules : GameRules g) (plan : List ℕ) {x y : List ℕ} (held1 : Holds (weightByNumber g plan one) (sequenceCount g one) x) (held2 : Holds (weightByNumber g plan two) (sequenceCount g two) y) where
+  -- one player's
+  plan-fits : (p : Player) {l : List ℕ} → Holds (weightByNumber g plan p) (sequenceCount g p) l → fits g p (planByNumber g p (entry l)) ≡ fits g p (planPairOf g plan p)
+  plan-fits p held = same-fits g rules p (weightByNumber g plan p) held ∙ ap (fits g p) (sym (plan-is g plan p))
+
+  -- both players'
+  pub same-pair-fits : pairFits g (pairByNumber g (entry x) (entry y)) ≡ pairFits g (planPairOf g plan)
+  unfolding pairFits pairByNumber
+  same-pair-fits = rw (plan-fits one held1, plan-fits two held2)
+
+  -- its answer is the file's
+  pub pair-fits : {r : Checked} → r ≡ checkedOf (pairFits g (pairByNumber g (entry x) (entry y))) → r ≡ checkedOf (pairFits g (planPairOf g plan))
+  pair-fits e = e ∙ ap checkedOf same-pair-fits

@@ -1,0 +1,177 @@
+-- Both files: which refusal a pair gets, what its answer says, and its weights in file order.
+use Prim.Native.Nat.{ℕ, zero, suc, _+_, _*_, _-_, _≤_, _<_}
+use mathlib.Core.Path.{_≡_, refl, sym, ap, _∙_}
+use mathlib.Core.Bool.{false, cond, _||_}
+use mathlib.Core.List.{List}
+use native.Mathlib.Omega.{arith}
+use native.Mathlib.Nat as NatL
+use borrow.Author.Tests.{ne-eqb}
+use lib.Dec.{eqb}
+use lib.ListN.{length}
+use Rattle.algebra.specs.Bounded.{listTo}
+use Rattle.algebra.specs.Arrays.{placed}
+use Rattle.algebra.proofs.Lists.{length-listTo, listTo-cong, listTo-plus}
+use Rattle.algebra.proofs.Arrays.{placed-twice}
+use Rattle.model.specs.Bits.{field, fields}
+use Rattle.model.specs.Game.{Game, Player, gameOf, one, two, movesBefore}
+use Rattle.model.specs.Sequences.{sequenceCount}
+use Rattle.model.specs.Refusals.{firstFailing, along, numbers}
+use Rattle.model.specs.GameChecks.{gameChecks, headerChecks, treeChecks, gameRefusal}
+use Rattle.model.specs.Plan.{planMoves, planWeights, weightsBefore}
+use Rattle.model.specs.PlanChecks.{Files, planChecks, pairChecks, pairRefusal}
+use Rattle.model.proofs.Refusals.{first-append, first-along, first-below}
+use Rattle.model.specs.Writing.{entry}
+use Rattle.game.specs.declared.Header.{Header}
+use Rattle.game.specs.declared.SequenceCounts.{SequenceCounts}
+use Rattle.model.proofs.Demand1.{game-rules}
+use Rattle.model.proofs.Budget.{game-limits}
+use Rattle.model.proofs.Numbers.{sequences-few}
+use Rattle.game.specs.Answers.{Holds, over}
+use Rattle.game.specs.Records.{headerOf}
+use Rattle.game.specs.Sets.{countsOf}
+use Rattle.game.proofs.Outcomes.{Sent}
+use Rattle.game.proofs.Recalls.{filled}
+use Rattle.plan.specs.declared.Denominators.{Denominators}
+use Rattle.plan.specs.declared.PairHeader.{PairHeader}
+use Rattle.plan.specs.declared.PlanAnswer.{PlanAnswer}
+use Rattle.plan.specs.declared.PlanAnswer.the-variants as Plan
+use Rattle.plan.specs.declared.PairAnswer.{PairAnswer}
+use Rattle.plan.specs.declared.PairAnswer.the-variants as Pair
+use Rattle.plan.specs.Header.{denominatorsOf}
+use Rattle.plan.specs.Weights.{weightsFrom, weightByNumber}
+use Rattle.plan.specs.Answers.{planRefusal, planAnswer, pairAnswer, refusalOf, pairRefusalOf, weightsAfter, inFileOrder}
+use Rattle.plan.proofs.Outcomes.{some-sequence, room}
+
+module _ (game plan : List ℕ) where
+  -- the game's refusal, and where it has none, the plan's
+  joined : pairRefusal game plan ≡ cond (eqb (gameRefusal game) 0) (planRefusal game plan) (gameRefusal game)
+  unfolding pairRefusal pairChecks firstFailing numbers along gameChecks headerChecks treeChecks gameRefusal
+  joined = first-append (along (λ (f : Files). f .game) gameChecks) planChecks (record { game = game; plan = plan }) tt ∙ rw (first-along (λ (f : Files). f .game) gameChecks (record { game = game; plan = plan }))
+
+  -- a game that is refused
+  pub game-refused : {r : ℕ} → Sent game r → pairRefusal game plan ≡ r
+  game-refused s = joined ∙ rw (ne-eqb (gameRefusal game) 0 (λ e. s .some (s .number ∙ e))) (sym (s .number))
+
+  -- its number is none of a plan's, so the arrays are left
+  pub game-early : {r : ℕ} → Sent game r → (eqb r 0 || eqb r 16) ≡ false
+  unfolding numbers gameChecks headerChecks treeChecks gameRefusal
+  game-early {r} s =
+      let low : r < 14 = omega (arith, s .number, first-below gameChecks game 14 (omega arith) tt) in
+      rw (ne-eqb r 0 (s .some), ne-eqb r 16 (λ e. omega arith))
+
+  -- one that is accepted
+  pub plan-decides : gameRefusal game ≡ 0 → pairRefusal game plan ≡ planRefusal game plan
+  plan-decides e = joined ∙ rw e
+
+  -- a plan that fits an accepted game
+  pub pair-fits-as : {a : PlanAnswer} {h : Header} {d : Denominators} {n : SequenceCounts} → gameRefusal game ≡ 0 → h ≡ headerOf game → a ≡ planAnswer (planRefusal game plan) game plan → a ≡ Plan.Fits d n → Pair.Fits (record { header = h; denominators = d; counts = n }) ≡ pairAnswer (pairRefusal game plan) game plan
+  pair-fits-as {h = h} {d} {n} none head e f = rw (plan-decides none) (go (planRefusal game plan) (sym f ∙ e))
+    where
+      go : (k : ℕ) → Plan.Fits d n ≡ planAnswer k game plan → Pair.Fits (record { header = h; denominators = d; counts = n }) ≡ pairAnswer k game plan
+      go zero e =
+          let same : d ≡ denominatorsOf plan = cc in
+          let counted : n ≡ countsOf (gameOf game) = cc in
+          λ i. Pair.Fits (record { header = head i; denominators = same i; counts = counted i })
+      go (suc j) e = let z : _≡_ {A = ℕ} 0 1 = cc in absurd (omega arith)
+
+  -- the number of a plan's refusal
+  pub plan-sent : {a : PlanAnswer} {k r : ℕ} → a ≡ planAnswer (planRefusal game plan) game plan → a ≡ Plan.Refused k → r ≡ refusalOf a → (r ≡ planRefusal game plan) × ¬ (r ≡ 0)
+  plan-sent {a} {k} {r} e f g = go (planRefusal game plan) refl (sym f ∙ e)
+    where
+      go : (n : ℕ) → planRefusal game plan ≡ n → Plan.Refused k ≡ planAnswer n game plan → (r ≡ planRefusal game plan) × ¬ (r ≡ 0)
+      go zero m e = let z : _≡_ {A = ℕ} 0 1 = cc in absurd (omega arith)
+      go (suc n) m e =
+          let same : k ≡ suc n = cc in
+          let is : r ≡ k = g ∙ ap refusalOf f in
+          (is ∙ same ∙ sym m, λ z. omega (arith, is, same))
+
+  -- what is known of a pair that fits
+  pub record PairOpened (h : PairHeader) : Type 0 where
+    pub none : pairRefusal game plan ≡ 0
+    pub game-none : gameRefusal game ≡ 0
+    pub header : h .header ≡ headerOf game
+    pub denominators : h .denominators ≡ denominatorsOf plan
+    pub counts : h .counts ≡ countsOf (gameOf game)
+
+  pub pair-opened : {a : PairAnswer} {h : PairHeader} → a ≡ pairAnswer (pairRefusal game plan) game plan → a ≡ Pair.Fits h → PairOpened h
+  pair-opened {a} {h} e f = go (pairRefusal game plan) refl (sym f ∙ e)
+    where
+      game-too : (k : ℕ) → gameRefusal game ≡ k → pairRefusal game plan ≡ 0 → k ≡ 0
+      game-too zero m e = refl
+      game-too (suc k) m e = absurd (omega (arith, sym (game-refused (record { number = sym m; some = λ z. omega arith })) ∙ e))
+
+      go : (k : ℕ) → pairRefusal game plan ≡ k → Pair.Fits h ≡ pairAnswer k game plan → PairOpened h
+      go zero k e =
+          let same : h ≡ record { header = headerOf game; denominators = denominatorsOf plan; counts = countsOf (gameOf game) } = cc in
+          record {
+            none = k;
+            game-none = game-too (gameRefusal game) refl k;
+            header = ap (λ (x : PairHeader). x .header) same;
+            denominators = ap (λ (x : PairHeader). x .denominators) same;
+            counts = ap (λ (x : PairHeader). x .counts) same;
+          }
+      go (suc n) k e = let z : _≡_ {A = ℕ} 0 1 = cc in absurd (omega arith)
+
+  -- the number of a pair's refusal
+  pub pair-sent : {a : PairAnswer} {k r : ℕ} → a ≡ pairAnswer (pairRefusal game plan) game plan → a ≡ Pair.Refused k → r ≡ pairRefusalOf a → (r ≡ pairRefusal game plan) × ¬ (r ≡ 0)
+  pair-sent {a} {k} {r} e f g = go (pairRefusal game plan) refl (sym f ∙ e)
+    where
+      go : (n : ℕ) → pairRefusal game plan ≡ n → Pair.Refused k ≡ pairAnswer n game plan → (r ≡ pairRefusal game plan) × ¬ (r ≡ 0)
+      go zero m e = let z : _≡_ {A = ℕ} 0 1 = cc in absurd (omega arith)
+      go (suc n) m e =
+          let same : k ≡ suc n = cc in
+          let is : r ≡ k = g ∙ ap pairRefusalOf f in
+          (is ∙ same ∙ sym m, λ z. omega (arith, is, same))
+
+-- the arrays of a pair that fits are filled
+pub pair-over : (game plan : List ℕ) {h : PairHeader} → PairOpened game plan h → (p : Player) {x : List ℕ} (l : List ℕ) → x ≡ weightsAfter (pairRefusal game plan) game plan p l → x ≡ over (weightByNumber (gameOf game) plan p) (sequenceCount (gameOf game) p) l
+pair-over game plan o p l e = rw (o .none) at e
+
+-- and hold its weights
+pub pair-holds : (game plan : List ℕ) {h : PairHeader} → PairOpened game plan h → (p : Player) {x : List ℕ} (l : List ℕ) → x ≡ weightsAfter (pairRefusal game plan) game plan p l → 4095 ≤ length l → Holds (weightByNumber (gameOf game) plan p) (sequenceCount (gameOf game) p) x
+pair-holds game plan o p l e b = filled l (pair-over game plan o p l e) (room game (game-rules game (o .game-none)) p l b)
+
+-- how many sequences each player has
+pub record PairCounted (game : List ℕ) (n : SequenceCounts) : Type 0 where
+  pub some1 : 1 ≤ n .first
+  pub some2 : 1 ≤ n .second
+  pub few1 : n .first ≤ 4095
+  pub few2 : n .second ≤ 4095
+  pub is1 : n .first ≡ sequenceCount (gameOf game) one
+  pub is2 : n .second ≡ sequenceCount (gameOf game) two
+
+pub pair-counted : (game plan : List ℕ) {h : PairHeader} → PairOpened game plan h → PairCounted game (h .counts)
+unfolding countsOf
+pair-counted game plan o =
+    let g = gameOf game in
+    let rules = game-rules game (o .game-none) in
+    let nodes = game-limits game .nodes in
+    let first = ap (λ (n : SequenceCounts). n .first) (o .counts) in
+    let second = ap (λ (n : SequenceCounts). n .second) (o .counts) in
+    record {
+      some1 = omega (arith, first, some-sequence g one);
+      some2 = omega (arith, second, some-sequence g two);
+      few1 = omega (arith, first, sequences-few g rules one, nodes);
+      few2 = omega (arith, second, sequences-few g rules two, nodes);
+      is1 = first;
+      is2 = second;
+    }
+
+-- arrays with both players' weights give the file's, in its order
+pub file-order : (g : Game) (plan x y : List ℕ) → Holds (weightByNumber g plan one) (sequenceCount g one) x → Holds (weightByNumber g plan two) (sequenceCount g two) y → inFileOrder (countsOf g) x y ≡ planWeights g plan
+unfolding inFileOrder planWeights fields planMoves countsOf sequenceCount weightByNumber weightsFrom weightsBefore
+file-order g plan x y a b =
+    let m = movesBefore g one (g .sets) in
+    let n = movesBefore g two (g .sets) in
+    let c : 1 + m - 1 ≡ m = omega arith in
+    let d : 1 + n - 1 ≡ n = omega arith in
+    rw (c, d, listTo-plus m n (λ i. field plan (32 + 12 * i) 12), listTo-cong m (λ i. entry x (suc i)) (λ i. field plan (32 + 12 * i) 12) (λ i l. a .at (suc i) (omega arith) ∙ rw (NatL.zero-add i)), listTo-cong n (λ i. entry y (suc i)) (λ i. field plan (32 + 12 * (m + i)) 12) (λ i l. b .at (suc i) (omega arith)))
+
+-- one player's weights after the other's
+pub both-placed : (n : SequenceCounts) (x y out : List ℕ) {m1 m2 : ℕ} {mid fin : List ℕ} → m1 ≡ n .first - 1 → m2 ≡ n .second - 1 → mid ≡ placed 0 (listTo m1 (λ i. entry x (suc i))) out → fin ≡ placed m1 (listTo m2 (λ i. entry y (suc i))) mid → fin ≡ placed 0 (inFileOrder n x y) out
+unfolding inFileOrder
+both-placed n x y out {m1} {m2} a b e f =
+    let first = listTo m1 (λ i. entry x (suc i)) in
+    let second = listTo m2 (λ i. entry y (suc i)) in
+    let size : m1 ≡ 0 + length first = omega (arith, length-listTo m1 (λ i. entry x (suc i))) in
+    f ∙ rw (e, ← a, ← b) (ap (λ (k : ℕ). placed k second (placed 0 first out)) size ∙ placed-twice 0 first second out (omega arith))

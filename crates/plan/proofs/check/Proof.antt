@@ -1,0 +1,149 @@
+-- The checks hold one after the other (`Past`), and the first that does not gives its number. Past 15 both arrays have the file's weights, so that 16 is the file's.
+use mathlib.Core.Path.{_≡_, refl, sym, ap, _∙_}
+use native.Mathlib.Omega.{arith}
+use borrow.Author.Needs.{needs}
+use Rattle.model.specs.Game.{gameOf, one, two}
+use Rattle.model.specs.Sequences.{sequenceCount}
+use Rattle.model.specs.Plan.{weightsBefore, planPairOf, pairFits}
+use Rattle.model.specs.PlanChecks.{planHasLength, planWellFormed, planChecks}
+use Rattle.game.specs.Answers.{checkedOf, over}
+use Rattle.game.proofs.NodeTests.{few-sets}
+use Rattle.game.proofs.Recalls.{filled}
+use Rattle.game.proofs.Headers.{header-sets, fine-test, Past, past-none, past-fine, past-stops, past-all}
+use Rattle.plan.specs.Answers.{planAnswer}
+use Rattle.plan.specs.Weights.{weightByNumber}
+use Rattle.plan.proofs.Forms.{length-is, header-first, header-second, header-denominators}
+use Rattle.plan.proofs.ByNumber.{by-number-from, filled-weights, pair-fits}
+use Rattle.plan.proofs.Outcomes.{some-sequence, room, Counted, counted, counts-are, fits-is, after-early, after-late}
+use Rattle.plan.proofs.check.Statement.{statement}
+use Rattle.plan.proofs.check.Tie as tie
+
+-- the moves of each player
+moves : (c : tie.After-index2) → Counted (c .before .before .before .before .before .before .before .before .before .before .before .args .game .now) (c .before .before .index .result) (c .index2 .result)
+moves c = counted _ (c .before .before .before .before .before .before .before .before .before .before .before .pre .1) (c .before .before .before .before .before .first-sequences .ensures .1) (c .before .before .before .before .before .first-sequences .ensures .2) (c .before .before .index .ensures) (c .index2 .ensures)
+
+past-1 : (c : tie.After-enum-told) → let a = c .before .before .before .before .before .before .before .before .before .before .before .before .before .before .args in Past planChecks 1 (record { game = a .game .now; plan = a .plan .now })
+unfolding planChecks
+past-1 c = past-fine planChecks 0 14 (λ f. planHasLength (gameOf (f .game)) (f .plan)) refl (past-none planChecks _) (c .before .before .has-length .ensures _ (moves (c .before .before .before) .all)) (c .enum-told .given .1)
+
+past-2 : (c : tie.After-enum-told3) → let a = c .before .before .before .before .before .before .before .before .before .before .before .before .before .before .before .before .before .before .args in Past planChecks 2 (record { game = a .game .now; plan = a .plan .now })
+unfolding planChecks
+past-2 c = past-fine planChecks 1 15 (λ f. planWellFormed (gameOf (f .game)) (f .plan)) refl (past-1 (c .before .before .before .before)) (c .before .before .well-formed .ensures _ (moves (c .before .before .before .before .before .before .before) .all)) (c .enum-told3 .given .1)
+
+first-sequences-requires : tie.Need-first-sequences-requires
+first-sequences-requires c κs =
+    let s = c .before .before .before .before .before in
+    (header-sets _ _ (s .pre .0), omega (arith, header-sets _ _ (s .pre .0), few-sets (s .args .game .now)))
+
+-- check 14 gives the length
+well-formed-requires : tie.Need-well-formed-requires
+well-formed-requires c κs =
+    let a = c .before .before .before .before .before .before .before .before .before .before .before .before .before .before .before .args in
+    let g = gameOf (a .game .now) in
+    let plan = a .plan .now in
+    let m = moves (c .before .before .before .before) in
+    (c .read .ensures, m .few, length-is g plan _ (m .all) (fine-test (planHasLength g plan) (c .before .before .before .has-length .ensures g (m .all)) (c .before .enum-told .given .1)))
+
+-- player 1's weights
+weights1 : (c : tie.After-decode) → let a = c .before .before .before .before .before .before .before .before .before .before .before .before .before .before .before .before .before .before .before .before .before .args in c .decode .last .1 .1 .1 .1 .0 ≡ over (weightByNumber (gameOf (a .game .now)) (a .plan .now) one) (sequenceCount (gameOf (a .game .now)) one) (a .x .now)
+unfolding weightsBefore
+weights1 c =
+    let a = c .before .before .before .before .before .before .before .before .before .before .before .before .before .before .before .before .before .before .before .before .before .args in
+    let g = gameOf (a .game .now) in
+    by-number-from g (a .plan .now) one _ (c .decode .ensures) (header-first g _ _ (c .before .before .before .before .before .before .read .ensures)) refl (moves (c .before .before .before .before .before .before .before .before .before .before) .first)
+
+-- and player 2's
+weights2 : (c : tie.After-decode2) → let a = c .before .before .before .before .before .before .before .before .before .before .before .before .before .before .before .before .before .before .before .before .before .before .before .before .before .args in c .decode2 .last .1 .1 .1 .1 .0 ≡ over (weightByNumber (gameOf (a .game .now)) (a .plan .now) two) (sequenceCount (gameOf (a .game .now)) two) (a .y .now)
+weights2 c =
+    let a = c .before .before .before .before .before .before .before .before .before .before .before .before .before .before .before .before .before .before .before .before .before .before .before .before .before .args in
+    let g = gameOf (a .game .now) in
+    let m = moves (c .before .before .before .before .before .before .before .before .before .before .before .before .before .before) in
+    by-number-from g (a .plan .now) two _ (c .decode2 .ensures) (header-second g _ _ (c .before .before .before .before .before .before .before .before .before .before .read .ensures)) (m .before) (m .second)
+
+pair-fits-requires : tie.Need-pair-fits-requires
+pair-fits-requires c κs =
+    let s = c .before .before .before .before .before .before .before .before .before .before .before .before .before .before .before .before .before .before .before .before .before .before .before .before .before .before .before .before .before .before in
+    let game = s .args .game .now in
+    let rules = s .pre .1 in (
+      s .pre .0,
+      rules,
+      filled _ (c .before .before .before .before .before .before .before .before .before .before .before .before .before .before .before .before .before .before .before .before .before .before .before .before .first-sequences .ensures .0) (omega (arith, few-sets game)),
+      filled-weights (gameOf game) _ one _ (weights1 (c .before .before .before .before .before .before .before .before .before)) (room game rules one (s .args .x .now) (s .pre .2)),
+      filled-weights (gameOf game) _ two _ (weights2 (c .before .before .before .before .before)) (room game rules two (s .args .y .now) (s .pre .3)),
+    )
+
+-- the answer is that of the pair that the file holds
+pair : (c : tie.After-pair-fits) → let a = c .before .before .before .before .before .before .before .before .before .before .before .before .before .before .before .before .before .before .before .before .before .before .before .before .before .before .before .before .before .before .before .args in c .pair-fits .result ≡ checkedOf (pairFits (gameOf (a .game .now)) (planPairOf (gameOf (a .game .now)) (a .plan .now)))
+pair c =
+    let s = c .before .before .before .before .before .before .before .before .before .before .before .before .before .before .before .before .before .before .before .before .before .before .before .before .before .before .before .before .before .before .before in
+    let game = s .args .game .now in
+    let rules = s .pre .1 in
+    let one-held = filled _ (weights1 (c .before .before .before .before .before .before .before .before .before .before)) (room game rules one (s .args .x .now) (s .pre .2)) in
+    let two-held = filled _ (weights2 (c .before .before .before .before .before .before)) (room game rules two (s .args .y .now) (s .pre .3)) in
+    pair-fits (gameOf game) rules (s .args .plan .now) one-held two-held (c .pair-fits .ensures)
+
+refused-14 : tie.Need-returns
+unfolding planChecks
+refused-14 c =
+    let s = c .before .before .before .before .before .before .before .before .before .before .before .before .before .before in
+    let plan = s .args .plan .now in
+    let e = past-stops planChecks 0 14 (λ f. planHasLength (gameOf (f .game)) (f .plan)) refl (past-none planChecks (record { game = s .args .game .now; plan = plan })) (c .before .before .has-length .ensures _ (moves (c .before .before .before) .all)) (c .enum-told2 .given .1) in
+    (ap (λ k. planAnswer k (s .args .game .now) plan) (sym e), after-early _ plan one _ _ e refl, after-early _ plan two _ _ e refl)
+
+refused-15 : tie.Need-returns-2
+unfolding planChecks
+refused-15 c =
+    let s = c .before .before .before .before .before .before .before .before .before .before .before .before .before .before .before .before .before .before in
+    let plan = s .args .plan .now in
+    let e = past-stops planChecks 1 15 (λ f. planWellFormed (gameOf (f .game)) (f .plan)) refl (past-1 (c .before .before .before .before)) (c .before .before .well-formed .ensures _ (moves (c .before .before .before .before .before .before .before) .all)) (c .enum-told4 .given .1) in
+    (ap (λ k. planAnswer k (s .args .game .now) plan) (sym e), after-early _ plan one _ _ e refl, after-early _ plan two _ _ e refl)
+
+refused-16 : tie.Need-returns-3
+unfolding planChecks
+refused-16 c =
+    let s = c .before .before .before .before .before .before .before .before .before .before .before .before .before .before .before .before .before .before .before .before .before .before .before .before .before .before .before .before .before .before .before .before .before in
+    let plan = s .args .plan .now in
+    let e = past-stops planChecks 2 16 (λ f. pairFits (gameOf (f .game)) (planPairOf (gameOf (f .game)) (f .plan))) refl (past-2 (c .before .before .before .before .before .before .before .before .before .before .before .before .before .before .before)) (pair (c .before .before)) (c .enum-told6 .given .1) in
+    (ap (λ k. planAnswer k (s .args .game .now) plan) (sym e), after-late _ plan one _ _ e refl (weights1 (c .before .before .before .before .before .before .before .before .before .before .before .before)), after-late _ plan two _ _ e refl (weights2 (c .before .before .before .before .before .before .before .before)))
+
+accepted : tie.Need-returns-4
+unfolding planChecks
+accepted c =
+    let s = c .before .before .before .before .before .before .before .before .before .before .before .before .before .before .before .before .before .before .before .before .before .before .before .before .before .before .before .before .before .before .before .before .before in
+    let plan = s .args .plan .now in
+    let past = past-fine planChecks 2 16 (λ f. pairFits (gameOf (f .game)) (planPairOf (gameOf (f .game)) (f .plan))) refl (past-2 (c .before .before .before .before .before .before .before .before .before .before .before .before .before .before .before)) (pair (c .before .before)) (c .enum-told5 .given .1) in
+    let e = past-all planChecks 3 _ refl past in
+    (fits-is (header-denominators plan _ (c .before .before .before .before .before .before .before .before .before .before .before .before .before .before .before .before .before .before .read .ensures)) (counts-are (gameOf (s .args .game .now)) _ (c .before .before .before .before .before .before .before .before .before .before .before .before .before .before .before .before .before .before .before .before .before .before .before .before .before .before .before .first-sequences .ensures .1) (c .before .before .before .before .before .before .before .before .before .before .before .before .before .before .before .before .before .before .before .before .before .before .before .before .before .before .before .first-sequences .ensures .2)) ∙ ap (λ k. planAnswer k (s .args .game .now) plan) (sym e), after-late _ plan one _ _ e refl (weights1 (c .before .before .before .before .before .before .before .before .before .before .before .before)), after-late _ plan two _ _ e refl (weights2 (c .before .before .before .before .before .before .before .before)))
+
+pub check-spec : {M : Type 1} → statement M
+check-spec =
+    tie.close
+    (tie.spec
+    (λ c. search needs)
+    first-sequences-requires
+    (λ c. omega (arith, c .before .before .first-sequences .ensures .1, some-sequence (gameOf (c .before .before .before .before .before .before .before .before .args .game .now)) one))
+    (λ c κs. search needs)
+    (λ c. omega (arith, c .before .before .before .before .first-sequences .ensures .2, some-sequence (gameOf (c .before .before .before .before .before .before .before .before .before .before .args .game .now)) two))
+    (λ c κs. search needs)
+    (λ c. omega (arith, moves c .few))
+    (λ c κs. moves c .few)
+    (λ c. search needs)
+    (λ c. search needs)
+    refused-14
+    (λ c κs. search needs)
+    well-formed-requires
+    (λ c. search needs)
+    (λ c. search needs)
+    refused-15
+    (λ c κs. let m = moves (c .before .before .before .before .before .before .before .before .before) in (omega arith, omega (arith, m .few), omega (arith, m .few, c .before .before .before .before .before .before .before .before .before .before .before .before .before .before .before .before .before .before .before .before .pre .2)))
+    (λ c κs. let m = moves (c .before .before .before .before .before .before .before .before .before .before .before .before .before) in (omega (arith, m .few), omega (arith, m .few), omega (arith, m .few, c .before .before .before .before .before .before .before .before .before .before .before .before .before .before .before .before .before .before .before .before .before .before .before .before .pre .3)))
+    (λ c. search needs)
+    pair-fits-requires
+    (λ c. search needs)
+    (λ c. search needs)
+    (λ c. search needs)
+    (λ c. search needs)
+    refused-16
+    (λ c. search needs)
+    (λ c. search needs)
+    accepted)

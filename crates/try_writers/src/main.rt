@@ -1,0 +1,297 @@
+// Tries the writers: a line for each case that the lists `games` and `plans` name, then lists of thousands of entries.
+// A case's file is words of 64 bits, most significant byte first, each at a fixed place.
+ghost use Prim.Native.Nat.{_≤_, _+_};
+ghost use mathlib.Core.Path.{_≡_};
+ghost use lib.ListN.{length, take};
+ghost use Rattle.io.specs.Counts.{Counts};
+use entry::WriteAnswer;
+use libc::STDOUT_FILENO;
+
+// The most words of a case: a game's room and D0, then ten lists of a count and 16 entries.
+const WORDS: usize = 172;
+
+// The bytes of so many words.
+const CASE_BYTES: usize = 1376;
+
+// The most entries of a list in a case.
+const ENTRIES: usize = 16;
+
+// The most bytes lent to the writer of a case.
+const MOST: usize = 96;
+
+// What each lent byte is before the call.
+const HELD: u8 = 165;
+
+// One more than the bytes of the longest legal file.
+const ROOM: usize = 36861;
+
+// How many of those are shown.
+const SHOWN: usize = 8;
+
+// What a case gives a writer.
+enum Kind {
+    Game,
+    Plan,
+}
+
+// Text to standard output.
+fn say(text: &[u8]) {
+    io::write_all(STDOUT_FILENO, text);
+}
+
+// A number after its label.
+fn say_number(before: &[u8], number: u64) {
+    say(before);
+    io::print_decimal(STDOUT_FILENO, number);
+}
+
+// A byte as two hexadecimal digits.
+fn say_byte(byte: u8) {
+    say(b" ");
+    io::print_hex(STDOUT_FILENO, byte as u64, 2);
+}
+
+// What a buffer holds.
+fn say_buffer(buffer: &[u8]) {
+    say(b" buffer");
+    let mut at = 0;
+    while at < buffer.len() {
+        say_byte(buffer[at]);
+        at += 1;
+    }
+    say(b"\n");
+}
+
+// What the first bytes of a buffer hold.
+fn say_start(buffer: &[u8])
+    requires { ⌜ 8 ≤ length (now buffer) ⌝ }
+{
+    say_buffer(&buffer[..SHOWN]);
+}
+
+// The answer of a writer.
+fn say_written(answer: WriteAnswer) {
+    match answer {
+        WriteAnswer::Written(size) => say_number(b": written ", size),
+        WriteAnswer::Refused(number) => say_number(b": refusal ", number),
+    }
+}
+
+// The file's bytes at the start of the buffer, and how many. A file that is not there is told from an empty one.
+fn load(name: &[u8], buffer: &mut [u8]) -> usize
+    ensures { λ r. ⌜ Counts r (now (buffer .exit)) ⌝ }
+{
+    let file = os::open_read(name);
+    if file < 0 {
+        say(b"absent ");
+        return 0;
+    }
+    let length = io::read_full(file, buffer);
+    libc::close(file);
+    length
+}
+
+// A number from a file as a length of at most `most`.
+fn at_most(number: u64, most: usize) -> usize
+    ensures { λ r. ⌜ r ≤ most ⌝ }
+{
+    let length = bits::index(number);
+    if length <= most { length } else { most }
+}
+
+// The entries of the list whose count stands at word `at`.
+fn list(words: &[u64], at: usize) -> &[u64]
+    requires { ⌜ at + 17 ≤ length (now words) ⌝ }
+    ensures { λ r. ⌜ length (now r) ≤ 16 ⌝ }
+{
+    let start = at + 1;
+    let end = start + at_most(words[at], ENTRIES);
+    &words[start..end]
+}
+
+// A word as two's complement: `x - 2^64` in steps that each fit an `i64`.
+fn signed(x: u64) -> i64 {
+    if x < 9223372036854775808 {
+        x as i64
+    } else {
+        -1 - ((18446744073709551615 - x) as i64)
+    }
+}
+
+// Payoffs from their words into the buffer, and how many.
+fn put_payoffs(words: &[u64], payoffs: &mut [i64]) -> usize
+    requires { ⌜ (length (now words) ≤ 16) × (length (now payoffs) ≡ 16) ⌝ }
+    ensures { λ r. ⌜ (r ≤ length (now (payoffs .exit))) × (r ≡ length (take r (now (payoffs .exit)))) ⌝ }
+{
+    let mut at = 0;
+    while at < words.len() {
+        payoffs[at] = signed(words[at]);
+        at += 1;
+    }
+    at
+}
+
+// Writes the game that the words give, but for its payoffs.
+fn write_game(words: &[u64], payoffs1: &[i64], payoffs2: &[i64], out: &mut [u8]) -> WriteAnswer
+    requires { ⌜ length (now words) ≡ 172 ⌝ }
+{
+    entry::writing::write_game(
+        words[1],
+        list(words, 2),
+        list(words, 19),
+        list(words, 36),
+        list(words, 53),
+        list(words, 70),
+        list(words, 87),
+        list(words, 104),
+        list(words, 121),
+        payoffs1,
+        payoffs2,
+        out,
+    )
+}
+
+// The answer to the game that the words give, and what the buffer holds afterwards.
+fn try_game(words: &[u64], out: &mut [u8])
+    requires { ⌜ length (now words) ≡ 172 ⌝ }
+{
+    let mut payoffs1 = [0i64; ENTRIES];
+    let count1 = put_payoffs(list(words, 138), &mut payoffs1);
+    let mut payoffs2 = [0i64; ENTRIES];
+    let count2 = put_payoffs(list(words, 155), &mut payoffs2);
+    say_written(write_game(words, &payoffs1[..count1], &payoffs2[..count2], out));
+    say_buffer(out);
+}
+
+// The answer to the plan that the words give, and what the buffer holds afterwards.
+fn try_plan(words: &[u64], out: &mut [u8])
+    requires { ⌜ length (now words) ≡ 172 ⌝ }
+{
+    say_written(entry::writing::write_plan(words[1], words[2], list(words, 3), out));
+    say_buffer(out);
+}
+
+// The answer to what the words give, with a buffer cut to the length that the first gives.
+fn try_words(kind: Kind, words: &[u64])
+    requires { ⌜ length (now words) ≡ 172 ⌝ }
+{
+    let mut buffer = [HELD; MOST];
+    let room = at_most(words[0], MOST);
+    match kind {
+        Kind::Game => try_game(words, &mut buffer[..room]),
+        Kind::Plan => try_plan(words, &mut buffer[..room]),
+    }
+}
+
+// The line of one case.
+fn try_case(kind: Kind, name: &[u8]) {
+    let mut bytes = [0u8; CASE_BYTES];
+    let length = load(name, &mut bytes);
+    let mut words = [0u64; WORDS];
+    bits::runs::read_run(&bytes[..length], 0, 64, WORDS, &mut words, 0);
+    say(name);
+    try_words(kind, &words);
+}
+
+// The end of the line that begins at `start`.
+fn line_end(names: &[u8], start: usize) -> usize
+    requires { ⌜ start ≤ length (now names) ⌝ }
+    ensures { λ r. ⌜ (start ≤ r) × (r ≤ length (now (names .entry))) ⌝ }
+{
+    let mut end = start;
+    while end < names.len() {
+        if names[end] == b'\n' {
+            return end;
+        }
+        end += 1;
+    }
+    end
+}
+
+// The line of each case that is named.
+fn try_cases(kind: Kind, names: &[u8]) {
+    let mut start = 0;
+    while start < names.len() {
+        let end = line_end(names, start);
+        try_case(kind, &names[start..end]);
+        if end == names.len() {
+            return;
+        }
+        start = end + 1;
+    }
+}
+
+// The cases that the file names.
+fn try_list(kind: Kind, name: &[u8]) {
+    let mut names = io::buffer();
+    let length = load(name, &mut names);
+    try_cases(kind, &names[..length]);
+}
+
+// Writes a game with D0 = 1 whose lists of sets are one list, and those of nodes another.
+fn write_alike(sets: &[u64], nodes: &[u64], payoffs: &[i64], out: &mut [u8]) -> WriteAnswer {
+    entry::writing::write_game(
+        1,
+        sets,
+        sets,
+        nodes,
+        nodes,
+        nodes,
+        nodes,
+        nodes,
+        nodes,
+        payoffs,
+        payoffs,
+        out,
+    )
+}
+
+// The answer, and the first bytes of a buffer that has room for any file.
+fn try_alike(sets: &[u64], nodes: &[u64], payoffs: &[i64]) {
+    let mut buffer = [HELD; ROOM];
+    say_written(write_alike(sets, nodes, payoffs, &mut buffer));
+    say_start(&buffer);
+}
+
+// The line of a game of so many sets and nodes, all their fields 0.
+fn try_long_game(sets: usize, nodes: usize)
+    requires { ⌜ (sets ≤ 4096) × (nodes ≤ 4096) ⌝ }
+{
+    io::print_decimal(STDOUT_FILENO, sets as u64);
+    say_number(b" sets and ", nodes as u64);
+    say(b" nodes");
+    let of_sets = [0u64; 4096];
+    let of_nodes = [0u64; 4096];
+    let payoffs = [0i64; 4096];
+    try_alike(&of_sets[..sets], &of_nodes[..nodes], &payoffs[..nodes]);
+}
+
+// The answer to a plan with D1 = D2 = 1, and the first bytes of its buffer.
+fn try_weights(weights: &[u64]) {
+    let mut buffer = [HELD; ROOM];
+    say_written(entry::writing::write_plan(1, 1, weights, &mut buffer));
+    say_start(&buffer);
+}
+
+// The line of a plan of so many weights, all of them 1.
+fn try_long_plan(count: usize)
+    requires { ⌜ count ≤ 5001 ⌝ }
+{
+    io::print_decimal(STDOUT_FILENO, count as u64);
+    say(b" weights");
+    let ones = [1u64; 5001];
+    try_weights(&ones[..count]);
+}
+
+fn main() {
+    try_list(Kind::Game, b"games");
+    try_list(Kind::Plan, b"plans");
+    try_long_game(4095, 0);
+    try_long_game(4096, 0);
+    try_long_game(0, 4095);
+    try_long_game(0, 4096);
+    try_long_game(4095, 4095);
+    try_long_game(4096, 4096);
+    try_long_plan(4095);
+    try_long_plan(5001);
+}

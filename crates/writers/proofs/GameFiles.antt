@@ -1,0 +1,97 @@
+-- The game writer: its file as a header, set entries and node records, and what it answers.
+use Prim.Native.Nat.{ℕ, _+_, _*_}
+use mathlib.Core.Path.{_≡_, sym, _∙_}
+use mathlib.Core.List.{List, _++_}
+use native.Mathlib.Omega.{arith}
+use lib.Dec.{leb}
+use lib.ListN.{length, length-append}
+use Rattle.algebra.specs.Arrays.{placed}
+use Rattle.algebra.specs.Bounded.{joinTo}
+use Rattle.algebra.proofs.Arrays.{placed-twice}
+use Rattle.algebra.proofs.Lists.{joinTo-cong, length-joinTo}
+use Rattle.model.specs.Bits.{bits, packed, pack}
+use Rattle.model.specs.Writing.{GameFields, setCount, nodeCount, setBits, nodeBits, headerBits, gameBytes, gameFieldsFit}
+use Rattle.model.specs.Calls.{afterCall, gameWriterChecks}
+use Rattle.model.proofs.Bits.{length-bits, length-packed}
+use Rattle.model.proofs.GameTrips.{length-game}
+use Rattle.model.proofs.Packing.{pack-whole, pack-append}
+use Rattle.writers.specs.declared.Checked.{Checked}
+use Rattle.writers.specs.declared.Checked.the-variants.{Fine, Broken}
+use Rattle.writers.specs.declared.WriteAnswer.{WriteAnswer}
+use Rattle.writers.specs.declared.WriteAnswer.the-variants.{Written, Refused}
+use Rattle.writers.specs.Answers.{checkedOf, writeAnswer}
+use Rattle.writers.specs.GameWriter.{setLists, gameWriterRefusal}
+use Rattle.writers.proofs.Given.{nodePart}
+use Rattle.writers.proofs.Puttings.{byte-count}
+use Rattle.writers.proofs.Refusals.{misfit, short, written}
+use Rattle.writers.proofs.Words.{set-width, node-alone}
+
+module _ (t : GameFields) where
+  -- the sets' lists alone
+  abbrev sets : GameFields
+  sets = setLists 0 (t .setPlayers) (t .setMoves)
+
+  -- the bytes of the set entries
+  abbrev setBytes : List ℕ
+  setBytes = pack (joinTo (length (t .setPlayers)) (setBits sets))
+
+  -- the bytes of the node records
+  abbrev nodeBytes : List ℕ
+  nodeBytes = pack (joinTo (length (t .kinds)) (nodeBits (nodePart t)))
+
+  -- the header's bits are those of one number
+  abbrev pub Heads : (word : ℕ) → Type 0
+  Heads word = bits 40 word ≡ bits 4 1 ++ bits 12 (length (t .kinds)) ++ bits 12 (length (t .setPlayers)) ++ bits 12 (t .rootWeight)
+
+  -- the file in its three parts
+  game-parts : (word : ℕ) → Heads word → packed 5 (bits 40 word) ++ setBytes ++ nodeBytes ≡ gameBytes t
+  unfolding gameBytes headerBits setBits setCount nodeCount
+  game-parts word e =
+      let header = bits 40 word in
+      let entries = joinTo (length (t .setPlayers)) (setBits t) in
+      let records = joinTo (length (t .kinds)) (nodeBits t) in
+      let same : joinTo (length (t .kinds)) (nodeBits (nodePart t)) ≡ records = joinTo-cong (length (t .kinds)) (nodeBits (nodePart t)) (nodeBits t) (λ n l. sym (node-alone (nodePart t) n) ∙ node-alone t n) in
+      let head : length header ≡ 8 * 5 = length-bits 40 word in
+      let front : length (header ++ entries) ≡ 8 * (5 + length (t .setPlayers)) = length-append header entries ∙ omega (arith, head, length-joinTo 8 (length (t .setPlayers)) (setBits t) (λ h l. set-width t h)) in
+      rw (← e, pack-append (5 + length (t .setPlayers)) (header ++ entries) records front, pack-append 5 header entries head, pack-whole 5 header head, same)
+
+  -- the three parts put one after the other
+  pub game-put : (out : List ℕ) (word : ℕ) {headed entered after : List ℕ} → Heads word → headed ≡ placed 0 (packed 5 (bits 40 word)) out → entered ≡ placed 5 setBytes headed → after ≡ placed (5 + length (t .setPlayers)) nodeBytes entered → after ≡ placed 0 (gameBytes t) out
+  game-put out word e f g h =
+      let header = packed 5 (bits 40 word) in
+      let first : placed 5 setBytes (placed 0 header out) ≡ placed 0 (header ++ setBytes) out = rw (length-packed 5 (bits 40 word)) at (placed-twice 0 header setBytes out (omega arith)) in
+      let front : 0 + length (header ++ setBytes) ≡ 5 + length (t .setPlayers) = omega (arith, length-append header setBytes, length-packed 5 (bits 40 word), byte-count 5 1 (setBits sets) (set-width sets) (length (t .setPlayers))) in
+      let second : placed (5 + length (t .setPlayers)) nodeBytes (placed 0 (header ++ setBytes) out) ≡ placed 0 (header ++ setBytes ++ nodeBytes) out = rw front at (placed-twice 0 (header ++ setBytes) nodeBytes out (omega arith)) in
+      rw (h, g, f, first, second, game-parts word e)
+
+module _ (t : GameFields) (out : List ℕ) where
+  -- the answer, and the lent bytes afterwards
+  abbrev pub Result : WriteAnswer → List ℕ → Type 0
+  Result r after = (r ≡ writeAnswer (gameWriterRefusal t (length out)) (length (gameBytes t))) × (after ≡ afterCall (gameWriterRefusal t (length out)) (gameBytes t) out)
+
+  -- fields that do not fit
+  pub game-misfit : {a : Checked} → a ≡ checkedOf (gameFieldsFit t) → a ≡ Broken → Result (Refused 17) out
+  unfolding gameWriterChecks
+  game-misfit e f = misfit gameFieldsFit gameBytes t out e f
+
+  -- how long the file is, as it is measured
+  abbrev size : ℕ
+  size = 5 + length (t .setPlayers) + 8 * length (t .kinds)
+
+  size-is : size ≡ length (gameBytes t)
+  unfolding setCount nodeCount
+  size-is = sym (length-game t)
+
+  module _ {a b : Checked} (ok : a ≡ checkedOf (gameFieldsFit t)) (fine : a ≡ Fine) (room : b ≡ checkedOf (leb size (length out))) where
+    room-is : b ≡ checkedOf (leb (length (gameBytes t)) (length out))
+    room-is = rw (← size-is) room
+
+    -- a buffer too short
+    pub game-short : b ≡ Broken → Result (Refused 18) out
+    unfolding gameWriterChecks
+    game-short f = short gameFieldsFit gameBytes t out ok fine room-is f
+
+    -- all bytes written
+    pub game-written : b ≡ Fine → {after : List ℕ} → after ≡ placed 0 (gameBytes t) out → Result (Written size) after
+    unfolding gameWriterChecks
+    game-written f all = written gameFieldsFit gameBytes t out ok fine room-is f size-is all

@@ -1,0 +1,90 @@
+-- What the game writer is given, node by node, and when it fits.
+use Prim.Native.Nat.{ℕ, _*_, _^_, _<_}
+use mathlib.Core.Path.{_≡_}
+use mathlib.Core.List.{List, [], _∷_}
+use lib.IntN.{ℤ}
+use lib.ListN.{length}
+use lib.Signed.{mag}
+use Rattle.model.specs.Refusals.{firstFailing}
+use Rattle.model.specs.Writing.{GameFields, entry, entryZ}
+use Rattle.model.specs.Calls.{gameWriterChecks}
+use Rattle.writers.specs.declared.records.NodeRecord.{NodeRecord}
+
+-- D0 and the ten lists as one record
+abbrev pub gameFields : (rootWeight : ℕ) → (setPlayers setMoves kinds parents moves weights nodeSets chanceMoves : List ℕ) → (payoffs1 payoffs2 : List ℤ) → GameFields
+gameFields rootWeight setPlayers setMoves kinds parents moves weights nodeSets chanceMoves payoffs1 payoffs2 = record {
+  rootWeight = rootWeight;
+  setPlayers = setPlayers;
+  setMoves = setMoves;
+  kinds = kinds;
+  parents = parents;
+  moves = moves;
+  weights = weights;
+  nodeSets = nodeSets;
+  chanceMoves = chanceMoves;
+  payoffs1 = payoffs1;
+  payoffs2 = payoffs2;
+}
+
+-- the refusal of what is given, with a buffer of so many bytes: 0 is none
+abbrev pub gameWriterRefusal : GameFields → (room : ℕ) → ℕ
+gameWriterRefusal t room = firstFailing gameWriterChecks (record { input = t; rooms = room ∷ [] })
+
+-- D0 and the sets' lists alone
+abbrev pub setLists : (rootWeight : ℕ) → (setPlayers setMoves : List ℕ) → GameFields
+setLists rootWeight setPlayers setMoves = gameFields rootWeight setPlayers setMoves [] [] [] [] [] [] [] []
+
+-- the nodes' lists alone
+abbrev pub nodeLists : (kinds parents moves weights nodeSets chanceMoves : List ℕ) → (payoffs1 payoffs2 : List ℤ) → GameFields
+nodeLists kinds parents moves weights nodeSets chanceMoves payoffs1 payoffs2 = gameFields 0 [] [] kinds parents moves weights nodeSets chanceMoves payoffs1 payoffs2
+
+-- the numbers of node n
+abbrev pub nodeOf : GameFields → (n : ℕ) → NodeRecord
+nodeOf t n = record {
+  kind = entry (t .kinds) n;
+  parent = entry (t .parents) n;
+  place = entry (t .moves) n;
+  weight = entry (t .weights) n;
+  set = entry (t .nodeSets) n;
+  moves = entry (t .chanceMoves) n;
+  payoff1 = entryZ (t .payoffs1) n;
+  payoff2 = entryZ (t .payoffs2) n;
+}
+
+-- the lists of one node: what is said of a node of any lists is said of one alone
+abbrev pub alone : NodeRecord → GameFields
+alone x = nodeLists (x .kind ∷ []) (x .parent ∷ []) (x .place ∷ []) (x .weight ∷ []) (x .set ∷ []) (x .moves ∷ []) (x .payoff1 ∷ []) (x .payoff2 ∷ [])
+
+-- the nodes' lists are side by side
+pub record Beside (t : GameFields) : Type 0 where
+  pub parents : length (t .parents) ≡ length (t .kinds)
+  pub moves : length (t .moves) ≡ length (t .kinds)
+  pub weights : length (t .weights) ≡ length (t .kinds)
+  pub nodeSets : length (t .nodeSets) ≡ length (t .kinds)
+  pub chanceMoves : length (t .chanceMoves) ≡ length (t .kinds)
+  pub payoffs1 : length (t .payoffs1) ≡ length (t .kinds)
+  pub payoffs2 : length (t .payoffs2) ≡ length (t .kinds)
+
+-- a node's numbers fit their fields
+pub record NodeFits (x : NodeRecord) : Type 0 where
+  pub kind : x .kind < 3
+  pub parent : x .parent < 2 ^ 12
+  pub place : x .place < 2 ^ 6
+  pub weight : x .weight < 2 ^ 12
+  pub set : x .set < 2 ^ 12
+  pub moves : x .moves < 2 ^ 7
+  pub payoff1 : 2 * mag (x .payoff1) < 2 ^ 16
+  pub payoff2 : 2 * mag (x .payoff2) < 2 ^ 16
+
+-- the sets' lists are side by side and few, and their numbers fit
+pub record SetsFit (t : GameFields) : Type 0 where
+  pub beside : length (t .setMoves) ≡ length (t .setPlayers)
+  pub few : length (t .setPlayers) < 2 ^ 12
+  pub player : (h : ℕ) → entry (t .setPlayers) h < 2 ^ 1
+  pub moves : (h : ℕ) → entry (t .setMoves) h < 2 ^ 7
+
+-- so do those of every node
+pub record NodesFit (t : GameFields) : Type 0 where
+  pub beside : Beside t
+  pub few : length (t .kinds) < 2 ^ 12
+  pub each : (n : ℕ) → n < length (t .kinds) → NodeFits (nodeOf t n)

@@ -1,0 +1,82 @@
+// The plan writer: refusals 17 and 18, then the header and all weights in file order.
+ghost use mathlib.Core.Path.{_≡_};
+ghost use mathlib.Core.Bool.{_&&_};
+ghost use Prim.Native.Nat.{_+_, _*_, _/_, _^_, _≤_, _<_};
+ghost use lib.ListN.{length};
+ghost use lib.Dec.{ltb};
+ghost use Rattle.algebra.specs.Arrays.{placed};
+ghost use Rattle.model.specs.Writing.{planBytes, planFieldsFit};
+ghost use Rattle.model.specs.Calls.{afterCall};
+ghost use Rattle.writers.specs.Answers.{checkedOf, writeAnswer};
+ghost use Rattle.writers.specs.PlanWriter.{planWriterRefusal, headerWord};
+use super::Checked;
+use super::WriteAnswer;
+use super::fit;
+
+// The header of a plan file: the denominators D1 and D2.
+struct Header {
+    d1: u64,
+    d2: u64,
+}
+
+impl Header {
+    const EDITION: u64 = 1;
+
+    // The first number that does not fit the 12 bits of a denominator.
+    const LIMIT: u64 = 4096;
+
+    // Its 32 bits: edition (4), D1 (12), D2 (12), four zero bits.
+    fn word(self) -> u64
+        requires { ⌜ (self .d1 < 2 ^ 12) × (self .d2 < 2 ^ 12) ⌝ }
+        ensures { λ r. ⌜ r ≡ headerWord (self .d1) (self .d2) ⌝ }
+    {
+        ((Header::EDITION * Header::LIMIT + self.d1) * Header::LIMIT + self.d2) * 16
+    }
+}
+
+// Whether a denominator fits, and the later numbers fit.
+fn fits_and(denominator: u64, later: bool) -> bool
+    ensures { λ r. ⌜ r ≡ (ltb denominator (2 ^ 12) && later) ⌝ }
+{
+    if denominator < Header::LIMIT {
+        later
+    } else {
+        false
+    }
+}
+
+// Check 17.
+fn numbers_fit(d1: u64, d2: u64, weights: &[u64]) -> Checked
+    ensures { λ r. ⌜ r ≡ checkedOf (planFieldsFit d1 d2 (now (weights .entry))) ⌝ }
+{
+    let ok = fit::all_fit(weights, 12);
+    let ok = fits_and(d2, ok);
+    let ok = fits_and(d1, ok);
+    if ok { Checked::Fine } else { Checked::Broken }
+}
+
+// The header, and the weights after it.
+fn fill(header: Header, weights: &[u64], out: &mut [u8])
+    requires { ⌜ (header .d1 < 2 ^ 12) × (header .d2 < 2 ^ 12) × (4 + (12 * length (now weights) + 7) / 8 ≤ length (now out)) ⌝ }
+    ensures { λ _. ⌜ now (out .exit) ≡ placed 0 (planBytes (header .d1) (header .d2) (now (weights .entry))) (now (out .entry)) ⌝ }
+{
+    bits::put_word(out, 0, 4, header.word());
+    bits::put_run(out, 4, weights, 12);
+}
+
+// Writes a plan file: D1, D2 and all weights, player 1's first.
+pub fn write(d1: u64, d2: u64, weights: &[u64], out: &mut [u8]) -> WriteAnswer
+    ensures { λ r. ⌜ (r ≡ writeAnswer (planWriterRefusal d1 d2 (now (weights .entry)) (length (now (out .entry)))) (length (planBytes d1 d2 (now (weights .entry))))) × (now (out .exit) ≡ afterCall (planWriterRefusal d1 d2 (now (weights .entry)) (length (now (out .entry)))) (planBytes d1 d2 (now (weights .entry))) (now (out .entry))) ⌝ }
+{
+    let fit = numbers_fit(d1, d2, weights);
+    let Checked::Fine = fit else {
+        return WriteAnswer::Refused(17);
+    };
+    let size = 4 + (12 * weights.len() + 7) / 8;
+    let room = super::has_room(size, out.len());
+    let Checked::Fine = room else {
+        return WriteAnswer::Refused(18);
+    };
+    fill(Header { d1, d2 }, weights, out);
+    WriteAnswer::Written(size)
+}

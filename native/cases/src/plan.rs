@@ -1,0 +1,130 @@
+//! The cases of `try_plan`, which reads plan files with their games.
+
+mod accepted;
+mod lines;
+mod order;
+mod refused;
+
+pub use order::{pairs, Pair};
+
+use crate::program::Program;
+use crate::text::list;
+use generator::edit::{put_bits, Field};
+use generator::tables::{GameTables, PlanWeights};
+use reference::Refusal;
+
+/// The file that names every case, its game and then its plan on a line each.
+const LIST: &str = "cases";
+
+/// The file that names those read into buffers of each length, likewise.
+const ROOMS: &str = "rooms";
+
+/// The cases read into buffers of each length: plans of 6, 3, 10 and no moves, and
+/// some that are refused.
+const READ_INTO_ROOMS: [&str; 8] = [
+    "00-study-game-m",
+    "00-three-moves",
+    "00-sets-not-in-tree-order",
+    "00-one-leaf",
+    "13-refused-game",
+    "14-one-byte-less",
+    "15-d1-zero",
+    "16-moves-after-weight-0",
+];
+
+/// A game file and a plan file with the refusal that they are made for, 0 where they
+/// break no rule.
+pub struct Case {
+    pub refusal: Refusal,
+    pub title: &'static str,
+    pub game: Vec<u8>,
+    pub plan: Vec<u8>,
+}
+
+impl Case {
+    /// The name of the folder and of its line: the refusal, then the title.
+    pub fn name(&self) -> String {
+        format!("{:02}-{}", self.refusal, self.title)
+    }
+
+    fn game_path(&self) -> String {
+        self.name() + "/game.bin"
+    }
+
+    fn plan_path(&self) -> String {
+        self.name() + "/plan.bin"
+    }
+}
+
+/// Every case: the plans that fit, those made for one refusal each, and those that
+/// break two rules.
+pub fn all_cases() -> Result<Vec<Case>, Refusal> {
+    let mut cases = accepted::cases()?;
+    cases.extend(refused::cases()?);
+    cases.extend(pairs()?.into_iter().map(|pair| pair.both));
+    Ok(cases)
+}
+
+/// The program with a folder for each case and the two lists.
+pub fn try_plan() -> Result<Program, Refusal> {
+    let cases = all_cases()?;
+    let in_rooms: Vec<&Case> = cases
+        .iter()
+        .filter(|case| READ_INTO_ROOMS.contains(&case.name().as_str()))
+        .collect();
+    let mut stdout: String = cases.iter().map(lines::check_line).collect();
+    for case in &in_rooms {
+        stdout.push_str(&lines::room_lines(case));
+    }
+    let paths = |case: &Case| [case.game_path(), case.plan_path()];
+    let mut files = vec![
+        (LIST.to_string(), list(cases.iter().flat_map(paths))),
+        (
+            ROOMS.to_string(),
+            list(in_rooms.into_iter().flat_map(paths)),
+        ),
+    ];
+    for case in cases {
+        let [game, plan] = paths(&case);
+        files.extend([(game, case.game), (plan, case.plan)]);
+    }
+    Ok(Program::new("try_plan", files, stdout))
+}
+
+/// The cases made for one refusal over one game, by their titles.
+fn made_for<const COUNT: usize>(
+    refusal: Refusal,
+    game: &[u8],
+    plans: [(&'static str, Vec<u8>); COUNT],
+) -> Vec<Case> {
+    let case = |(title, plan)| Case {
+        refusal,
+        title,
+        game: game.to_vec(),
+        plan,
+    };
+    plans.map(case).into()
+}
+
+/// The file with one field changed.
+fn changed(file: &[u8], field: Field, value: u64) -> Vec<u8> {
+    let mut file = file.to_vec();
+    put_bits(&mut file, field, value);
+    file
+}
+
+/// The plan file of both players' weights by sequence number, D1 and D2 first.
+fn plan_of(one: &[u64], two: &[u64]) -> Result<Vec<u8>, Refusal> {
+    let weights = [one.to_vec(), two.to_vec()];
+    PlanWeights { weights }.bytes()
+}
+
+/// A case by its tables.
+fn fitting(title: &'static str, game: &GameTables, plan: &PlanWeights) -> Result<Case, Refusal> {
+    Ok(Case {
+        refusal: 0,
+        title,
+        game: game.bytes()?,
+        plan: plan.bytes()?,
+    })
+}
