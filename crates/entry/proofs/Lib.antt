@@ -1,6 +1,4 @@
 pub mod Answers
-pub mod Buffers
+pub mod Numbers
 pub mod Pairs
-pub mod Refusals
-pub mod Valued
-pub mod Written
+pub mod Tabled

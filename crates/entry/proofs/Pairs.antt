@@ -28,24 +28,11 @@ use Rattle.entry.specs.declared.PlanAnswer.the-variants.{Fits}
 use Rattle.entry.specs.declared.WeightsAnswer.{WeightsAnswer}
 use Rattle.entry.specs.declared.WeightsAnswer.the-variants.{Given, Refused}
 use Rattle.entry.specs.Plans.{planAnswer, weightsRefusal, weightsAnswer}
-use Rattle.entry.proofs.Refusals.{part-fails, last-fails, none-fails}
-
--- its denominators are D1 and D2
-pub first-is : (game plan : List ℕ) (h : PairHeader) → PairOpened game plan h → h .denominators .first ≡ planPairOf (gameOf game) plan one .denominator
-unfolding denominatorsOf planPairOf
-first-is game plan h o = rw (o .denominators)
-
-pub second-is : (game plan : List ℕ) (h : PairHeader) → PairOpened game plan h → h .denominators .second ≡ planPairOf (gameOf game) plan two .denominator
-unfolding denominatorsOf planPairOf
-second-is game plan h o = rw (o .denominators)
+use Rattle.calls.proofs.Refusals.{some-pair, part-fails, last-fails, none-fails}
+use Rattle.calls.proofs.Denominators.{first-is, second-is}
 
 pub plan-is-read : (game plan : List ℕ) (h : PairHeader) → PairOpened game plan h → Fits (h .denominators .first) (h .denominators .second) ≡ planAnswer (pairRefusal game plan) game plan
 plan-is-read game plan h o = rw (o .none, first-is game plan h o, second-is game plan h o)
-
--- no check of a pair has the number 0
-pub some-pair : T (nonzero (numbers pairChecks))
-unfolding numbers along pairChecks planChecks gameChecks headerChecks treeChecks
-some-pair = tt
 
 -- The call for all weights.
 module _ (game plan buffer : List ℕ) where

@@ -1,5 +1,3 @@
 pub mod Answers
-pub mod GameFields
 pub mod Plans
-pub mod Values
-pub mod Writing
+pub mod Tables

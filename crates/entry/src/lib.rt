@@ -10,10 +10,23 @@ use game::OwnSequence;
 use game::Payload;
 use game::SetEntry;
 
-pub mod fields;
-pub mod plans;
-pub mod values;
-pub mod writing;
+mod plans;
+mod table;
+
+pub use fields::FieldsAnswer;
+pub use fields::game_fields;
+pub use plans::check_plan;
+pub use plans::plan_fields;
+pub use report::reports::refusal_line;
+pub use report::reports::report;
+pub use table::payoff_table;
+pub use verdict::ValuesAnswer;
+pub use verdict::VerdictAnswer;
+pub use verdict::values::values;
+pub use verdict::verdicts::verdict;
+pub use writers::WriteAnswer;
+pub use writers::game::write as write_game;
+pub use writers::plan::write as write_plan;
 
 // The answer to a game file: accepted, with N, H and D0, or the first refusal, 1 to 13.
 pub enum GameAnswer {
@@ -62,16 +75,6 @@ pub enum SequenceAnswer {
     Refused(u64),
 }
 
-// All fields of a game stand in the lent buffers; a refusal is 1 to 13, or 18.
-pub enum FieldsAnswer {
-    Given {
-        nodes: u64,
-        sets: u64,
-        root_weight: u64,
-    },
-    Refused(u64),
-}
-
 // The answer to a plan file against a game file: it fits, with D1 and D2, or the first refusal, 1 to 16.
 pub enum PlanAnswer {
     Fits { first: u64, second: u64 },
@@ -84,23 +87,9 @@ pub enum WeightsAnswer {
     Refused(u64),
 }
 
-// The players' values over D0 × D1 × D2, their best values over D0 × the other's D, and D0, D1 and D2; a refusal is 1 to 16.
-pub enum ValuesAnswer {
-    Given {
-        value1: i64,
-        value2: i64,
-        best1: i64,
-        best2: i64,
-        root_weight: u64,
-        first: u64,
-        second: u64,
-    },
-    Refused(u64),
-}
-
-// A file stands in the lent buffer, of so many bytes; a refusal is 17 or 18.
-pub enum WriteAnswer {
-    Written(u64),
+// The payoff table stands in the lent buffers, so many rows; a refusal is 1 to 13, or 18.
+pub enum TableAnswer {
+    Given { rows: u64 },
     Refused(u64),
 }
 

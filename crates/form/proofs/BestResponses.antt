@@ -22,10 +22,11 @@ use Rattle.model.proofs.Numbers.{number-below}
 use Rattle.model.proofs.Worths.{worth-sequence, worth-set}
 use Rattle.game.specs.Answers.{over}
 use Rattle.game.proofs.Loops.{length-over, over-at}
-use Rattle.form.specs.PlayerTables.{tablesFor, tableWorth}
+use Rattle.responses.specs.PlayerTables.{tablesFor, tableWorth}
 use Rattle.form.specs.Prepared.{Prepared}
-use Rattle.form.specs.BestMoves.{firstGreatest, bestStored, bestOf, ownBestMove, MovesStored}
-use Rattle.form.proofs.SetColumns.{over-same}
+use Rattle.responses.specs.BestMoves.{firstGreatest, bestStored, bestOf, MovesStored}
+use Rattle.form.specs.BestMoves.{ownBestMove}
+use Rattle.gather.proofs.SetColumns.{over-same}
 use Rattle.form.proofs.Preparing.{lead-own, lead-other, owned, move-at}
 use Rattle.form.proofs.PreparedTables.{LeafSums, table-worth}
 

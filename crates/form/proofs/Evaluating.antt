@@ -14,7 +14,8 @@ use Rattle.model.proofs.Budget.{GameLimits}
 use Rattle.game.specs.declared.SequenceCounts.{SequenceCounts}
 use Rattle.game.specs.Sets.{countsOf}
 use Rattle.plan.specs.Weights.{planByNumber, pairByNumber}
-use Rattle.form.specs.Leaves.{Gathered, ofPlayer, pairSumTo, ValueReady}
+use Rattle.gather.specs.Leaves.{Gathered, ofPlayer}
+use Rattle.slices.specs.Sums.{pairSumTo, ValueReady}
 use Rattle.form.specs.Values.{valuesOf, PairWeights}
 use Rattle.form.proofs.LeafLaws.{plan-by-number, value-is, value-ready}
 use Rattle.form.proofs.PairBudget.{pair-budget, weights1, weights2}

@@ -2,14 +2,13 @@
 use Prim.Native.Nat.{ℕ, _≤_, _<_}
 use mathlib.Core.Path.{_≡_, sym, ap, _∙_}
 use mathlib.Core.Bool.{Bool, _&&_}
-use mathlib.Core.List.{List, map}
+use mathlib.Core.List.{List}
 use native.Mathlib.Omega.{arith}
 use lib.ListN.{length}
 use lib.Dec.{T, eqb, eqb→eq}
 use lib.IntN.{ℤ, pos}
 use mir.Syntax.{w64}
 use mir.Val.{SFits}
-use Rattle.algebra.specs.Arrays.{placed}
 use Rattle.algebra.specs.Bounded.{sumTo, sumWhere, anyTo}
 use Rattle.algebra.proofs.Tests.{dec, bool-same, eqb-make}
 use Rattle.algebra.proofs.Searches.{anyTo-find, anyTo-make}
@@ -32,29 +31,10 @@ use Rattle.game.specs.Answers.{Holds, over}
 use Rattle.game.proofs.Loops.{over-at}
 use Rattle.plan.specs.Weights.{planByNumber, Weights}
 use Rattle.plan.proofs.ByNumber.{weight-at}
-use Rattle.form.specs.Leaves.{leavesOf, leafOf, Column, Gathered, PlayerLeaves, ofPlayer, opponentTerm, sumAt, pairTerm, pairSumTo, SumsReady, ValueReady}
-use Rattle.form.proofs.Gathering.{all-few}
-use Rattle.form.proofs.LeafSums.{leaves-sum, leaves-prefix, leaf-in, column-is}
-
--- what `gather` ensures
-pub gathered : (g : Game) → g .nodes ≤ 4095 → {count : ℕ} {first second chance : List ℕ} {payoffs1 payoffs2 : List ℤ} (first₀ second₀ chance₀ : List ℕ) (payoffs1₀ payoffs2₀ : List ℤ) → (count ≡ length (leavesOf g)) × (first ≡ placed 0 (map (ownNumber g one) (leavesOf g)) first₀) × (second ≡ placed 0 (map (ownNumber g two) (leavesOf g)) second₀) × (chance ≡ placed 0 (map (g .weight) (leavesOf g)) chance₀) × (payoffs1 ≡ placed 0 (map (g .payoff one) (leavesOf g)) payoffs1₀) × (payoffs2 ≡ placed 0 (map (g .payoff two) (leavesOf g)) payoffs2₀) → 4095 ≤ length first₀ → 4095 ≤ length second₀ → 4095 ≤ length chance₀ → 4095 ≤ length payoffs1₀ → 4095 ≤ length payoffs2₀ → Gathered g count first second chance payoffs1 payoffs2
-gathered g few first₀ second₀ chance₀ payoffs1₀ payoffs2₀ e a b c d h = record {
-  counted = e .0;
-  first-is = column-is g (ownNumber g one) first₀ _ (e .1) (omega (arith, all-few g));
-  second-is = column-is g (ownNumber g two) second₀ _ (e .2) (omega (arith, all-few g));
-  chance-is = column-is g (g .weight) chance₀ _ (e .3) (omega (arith, all-few g));
-  payoffs1-is = column-is g (g .payoff one) payoffs1₀ _ (e .4) (omega (arith, all-few g));
-  payoffs2-is = column-is g (g .payoff two) payoffs2₀ _ (e .5) (omega (arith, all-few g));
-}
-
--- each player's part of them
-pub player-leaves : (g : Game) (p : Player) {count : ℕ} {first second chance : List ℕ} {payoffs1 payoffs2 : List ℤ} → Gathered g count first second chance payoffs1 payoffs2 → PlayerLeaves g p count (ofPlayer p first second) (ofPlayer (other p) first second) chance (ofPlayer p payoffs1 payoffs2)
-player-leaves g one L = record { counted = L .counted; own-is = L .first-is; opponent-is = L .second-is; chance-is = L .chance-is; payoffs-is = L .payoffs1-is }
-player-leaves g two L = record { counted = L .counted; own-is = L .second-is; opponent-is = L .first-is; chance-is = L .chance-is; payoffs-is = L .payoffs2-is }
-
--- a column of p's sequence numbers
-column-below : (g : Game) → GameRules g → (p : Player) {l : List ℕ} → Column g (ownNumber g p) l → (k : ℕ) → k < length (leavesOf g) → entry l k < sequenceCount g p
-column-below g R p C k v = rw (C .at 0 k v) (own-number-below g R p (leafOf g k) (leaf-in g k v))
+use Rattle.gather.specs.Leaves.{leavesOf, leafOf, Column, Gathered, PlayerLeaves, ofPlayer}
+use Rattle.slices.specs.Sums.{opponentTerm, sumAt, pairTerm, pairSumTo, SumsReady, ValueReady}
+use Rattle.gather.proofs.LeafSums.{leaves-sum, leaves-prefix, leaf-in}
+use Rattle.gather.proofs.LeafColumns.{player-leaves, column-below}
 
 -- an array that holds weights by number has them at the numbers of own sequences
 pub held-by-number : (g : Game) → GameRules g → (p : Player) (plan : RealizationPlan) (f : ℕ → ℕ) {x : List ℕ} → ByNumber g p plan f → Holds f (sequenceCount g p) x → ByNumber g p plan (entry x)

@@ -17,7 +17,7 @@ use Rattle.model.proofs.Duality.{Fits}
 use Rattle.model.proofs.Numbers.{sequences-few}
 use Rattle.model.proofs.PlanRules.{pair-fits-iff}
 use Rattle.plan.specs.Weights.{planByNumber, pairByNumber, Small, Weights}
-use Rattle.form.specs.Responses.{Opponent}
+use Rattle.form.specs.Opponents.{Opponent}
 use Rattle.form.specs.Values.{PairWeights}
 
 -- past its end a list has no weight above 16 bits either

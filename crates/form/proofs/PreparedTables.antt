@@ -27,9 +27,9 @@ use Rattle.model.proofs.Worths.{leads-parts}
 use Rattle.model.proofs.Budget.{GameLimits, Budget}
 use Rattle.game.specs.Answers.{over}
 use Rattle.game.proofs.Loops.{length-over, over-at}
-use Rattle.form.specs.PlayerTables.{PlayerTables, tablesFor, tableLeads, tableGreatest, tablePartial, tableWorth, OwnSet, MoveOf, Ready}
+use Rattle.responses.specs.PlayerTables.{PlayerTables, tablesFor, tableLeads, tableGreatest, tablePartial, tableWorth, OwnSet, MoveOf, Ready}
 use Rattle.form.specs.Prepared.{Prepared}
-use Rattle.form.proofs.Chaining.{from-like, next-like}
+use Rattle.slices.proofs.Chaining.{from-like, next-like}
 use Rattle.form.proofs.Preparing.{lead-own, owned, move-at}
 use Rattle.form.proofs.Reached.{move-found, number-found, first-before}
 

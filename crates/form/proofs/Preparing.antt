@@ -7,16 +7,16 @@ use native.Mathlib.Omega.{arith}
 use lib.Dec.{T, eqb}
 use Rattle.algebra.proofs.Tests.{dec, cond-yes, cond-no}
 use Rattle.model.specs.Game.{Game, Player, one, two, samePlayer, playerBit, owns, movesBefore}
-use Rattle.model.specs.Sequences.{extended, firstNode, leading, moveNumber, sequenceNumber, sequenceCount}
+use Rattle.model.specs.Sequences.{extended, leading, moveNumber, sequenceNumber, sequenceCount}
 use Rattle.model.specs.Writing.{entry}
 use Rattle.model.proofs.Sequences.{number-extended}
 use Rattle.model.proofs.Tree.{owner}
 use Rattle.game.specs.Answers.{Holds}
 use Rattle.game.specs.Columns.{playerField}
 use Rattle.game.specs.Sets.{firstSequence}
-use Rattle.form.specs.Chains.{firstFrom, nextOf}
-use Rattle.form.specs.Sets.{leadNumber, ownLead}
-use Rattle.form.specs.Prepared.{ownLeadNumber, Prepared}
+use Rattle.slices.specs.Chains.{firstFrom, nextOf}
+use Rattle.gather.specs.Sets.{leadNumber, ownLead, SetsGathered}
+use Rattle.form.specs.Prepared.{ownLeadNumber, PlayerChains, Prepared}
 
 -- the bit of a set's player tells whether it is p's
 bit-tells : (p r : Player) → eqb (playerBit r) (playerBit p) ≡ samePlayer p r
@@ -25,19 +25,27 @@ bit-tells one two = refl
 bit-tells two one = refl
 bit-tells two two = refl
 
--- What the functions that gather and chain leave in their arrays is what is to be prepared.
-pub prepared : (g : Game) (p : Player) {players leads head next lead start count node : List ℕ} → Holds (playerField g) (g .sets) players → Holds (leadNumber g) (g .sets) leads → Holds (ownLead players leads (playerBit p) (sequenceCount g p)) (g .sets) lead → Holds (λ s. firstFrom lead (g .sets) s 0) (sequenceCount g p) head → Holds (nextOf lead (g .sets) (sequenceCount g p)) (g .sets) next → Holds (firstSequence g) (g .sets) start → Holds (g .setMoves) (g .sets) count → Holds (firstNode g) (g .sets) node → Prepared g p head next lead start count node
+-- What the functions that gather and chain leave in their arrays are his chains,
+pub chains-are : (g : Game) (p : Player) {players leads head next lead : List ℕ} → Holds (playerField g) (g .sets) players → Holds (leadNumber g) (g .sets) leads → Holds (ownLead players leads (playerBit p) (sequenceCount g p)) (g .sets) lead → Holds (λ s. firstFrom lead (g .sets) s 0) (sequenceCount g p) head → Holds (nextOf lead (g .sets) (sequenceCount g p)) (g .sets) next → PlayerChains g p head next lead
 unfolding ownLead ownLeadNumber playerField owns
-prepared g p A B C D E F H K = record {
+chains-are g p A B C D E = record {
   head-holds = D;
   next-holds = E;
   lead-holds = record {
     long = C .long;
     at = λ h l. C .at h l ∙ rw (A .at h l, B .at h l) (ap (λ (b : Bool). cond b (leadNumber g h) (sequenceCount g p)) (bit-tells p (g .setPlayer h)));
   };
-  start-holds = F;
-  count-holds = H;
-  node-holds = K;
+}
+
+-- and with what is gathered of the sets, what is to be prepared.
+pub prepared : {g : Game} {p : Player} {players count start leads node head next lead : List ℕ} → SetsGathered g players count start leads node → PlayerChains g p head next lead → Prepared g p head next lead start count node
+prepared G C = record {
+  head-holds = C .head-holds;
+  next-holds = C .next-holds;
+  lead-holds = C .lead-holds;
+  start-holds = G .start-holds;
+  count-holds = G .count-holds;
+  node-holds = G .node-holds;
 }
 
 module _ {g : Game} {p : Player} {head next lead start count node : List ℕ} (P : Prepared g p head next lead start count node) where

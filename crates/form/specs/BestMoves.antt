@@ -1,41 +1,15 @@
--- Best moves over stored worths.
-use Prim.Native.Nat.{ℕ, pred, _+_, _≤_, _<_}
+-- Best moves by set.
+use Prim.Native.Nat.{ℕ}
 use mathlib.Core.Bool.{cond}
-use mathlib.Core.List.{List}
-use lib.Dec.{ltb}
-use lib.IntN.{ℤ}
-use lib.ListN.{length}
-use lib.Signed.{leZ}
-use Rattle.algebra.specs.Bounded.{maxUpTo, firstTo}
 use Rattle.model.specs.Game.{Game, Player, owns}
 use Rattle.model.specs.Plan.{RealizationPlan}
 use Rattle.model.specs.BestResponse.{bestMove}
-use Rattle.model.specs.Writing.{entry, entryZ}
 
--- the least number below n at which f is greatest
-unfoldable pub firstGreatest : (f : ℕ → ℤ) → (n : ℕ) → ℕ
-firstGreatest f n = firstTo n (λ m. leZ (maxUpTo (pred n) f) (f m))
-
--- the lowest-numbered worthiest of the moves whose worths stand from `start` on
-unfoldable pub bestStored : (worth : List ℤ) → (start count : ℕ) → ℕ
-bestStored worth start count = firstGreatest (λ m. entryZ worth (start + m)) count
-
--- that of set h, where it is one of the player's; else 0
-unfoldable pub bestOf : (worth : List ℤ) → (lead start count : List ℕ) → (sequences h : ℕ) → ℕ
-bestOf worth lead start count sequences h =
-    let best = bestStored worth (entry start h) (entry count h) in
-    cond (ltb (entry lead h) sequences) best 0
-
--- that of the model, where set h is p's; else 0
+-- the best move of set h against y, where the set is p's; else 0
 unfoldable pub ownBestMove : Game → Player → RealizationPlan → ℕ → ℕ
 ownBestMove g p y h = let best = bestMove g p y h in cond (owns g p h) best 0
 
--- each set of the player's has a move, and the worths of its moves are stored
-pub record MovesStored (worth : List ℤ) (lead start count : List ℕ) (sequences sets : ℕ) : Type 0 where
-  pub some-move : (h : ℕ) → h < sets → entry lead h < sequences → 0 < entry count h
-  pub stored : (h : ℕ) → h < sets → entry lead h < sequences → entry start h + entry count h ≤ length worth
-
--- to unfold this is to unfold the definitions of this file: for closed computation
+-- to unfold this is to unfold all of this file: for closed computation
 unfoldable pub opened : Unit {0}
-unfolding firstGreatest bestStored bestOf ownBestMove
+unfolding ownBestMove
 opened = tt

@@ -1,10 +1,4 @@
 pub mod BestMoves
-pub mod Chains
-pub mod Leaves
-pub mod PlayerTables
+pub mod Opponents
 pub mod Prepared
-pub mod Responses
-pub mod Sets
-pub mod Stored
-pub mod Table
 pub mod Values

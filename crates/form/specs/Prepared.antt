@@ -6,12 +6,18 @@ use Rattle.model.specs.Game.{Game, Player, owns}
 use Rattle.model.specs.Sequences.{firstNode, sequenceCount}
 use Rattle.game.specs.Answers.{Holds}
 use Rattle.game.specs.Sets.{firstSequence}
-use Rattle.form.specs.Chains.{firstFrom, nextOf}
-use Rattle.form.specs.Sets.{leadNumber}
+use Rattle.slices.specs.Chains.{firstFrom, nextOf}
+use Rattle.gather.specs.Sets.{leadNumber}
 
 -- where set h is p's, the number of the sequence that leads to it; else the number of his sequences, which none has
 unfoldable pub ownLeadNumber : Game → Player → ℕ → ℕ
 ownLeadNumber g p h = let own = leadNumber g h in cond (owns g p h) own (sequenceCount g p)
+
+-- Player p's chains: by sequence the first set that it leads to, by set the next that the same sequence leads to, and what leads to it.
+pub record PlayerChains (g : Game) (p : Player) (head next lead : List ℕ) : Type 0 where
+  pub head-holds : Holds (λ s. firstFrom lead (g .sets) s 0) (sequenceCount g p) head
+  pub next-holds : Holds (nextOf lead (g .sets) (sequenceCount g p)) (g .sets) next
+  pub lead-holds : Holds (ownLeadNumber g p) (g .sets) lead
 
 -- Player p's chains, and of each set what leads to it, its first sequence, its move count and its first node.
 pub record Prepared (g : Game) (p : Player) (head next lead start count node : List ℕ) : Type 0 where

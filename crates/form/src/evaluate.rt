@@ -5,25 +5,22 @@ ghost use Prim.Native.Nat.{_≤_};
 ghost use lib.ListN.{length};
 ghost use Rattle.model.specs.Game.{gameOf, one, two};
 ghost use Rattle.model.specs.Plan.{pairFits};
-ghost use Rattle.model.specs.Sequences.{firstNode};
 ghost use Rattle.model.specs.Table.{ownNumber};
 ghost use Rattle.model.specs.Writing.{entry};
 ghost use Rattle.model.specs.Demand1.{GameRules};
 ghost use Rattle.game.specs.Answers.{Holds, over};
 ghost use Rattle.game.specs.Records.{headerOf};
-ghost use Rattle.game.specs.Sets.{firstSequence, countsOf};
+ghost use Rattle.game.specs.Sets.{countsOf};
 ghost use Rattle.plan.specs.Weights.{planByNumber, pairByNumber, Small};
-ghost use Rattle.form.specs.Leaves.{Gathered};
+ghost use Rattle.gather.specs.Leaves.{Gathered};
+ghost use Rattle.gather.specs.Numbers.{OwnNumbers};
 ghost use Rattle.form.specs.BestMoves.{ownBestMove};
-ghost use Rattle.form.specs.Responses.{SetsGathered};
+ghost use Rattle.gather.specs.Sets.{SetsGathered};
 ghost use Rattle.form.specs.Values.{valuesOf, Evaluated, PairWeights};
 use super::Values;
-use super::leaves;
-use super::responses;
-use super::sets;
+use super::best;
 use game::Header;
 use game::SequenceCounts;
-use game::recall;
 
 // On what is gathered of the game: its leaves and its sets.
 fn of_gathered(
@@ -49,10 +46,10 @@ fn of_gathered(
     requires { ⌜ (header ≡ headerOf (now game)) × GameRules (gameOf (now game)) × (counts ≡ countsOf (gameOf (now game))) × Gathered (gameOf (now game)) leaves (now first) (now second) (now chance) (now payoffs1) (now payoffs2) × SetsGathered (gameOf (now game)) (now players) (now count) (now start) (now leads) (now node) × PairWeights (gameOf (now game)) (now x) (now y) × (4095 ≤ length (now moves1)) × (4095 ≤ length (now moves2)) ⌝ }
     ensures { λ r. ⌜ Evaluated (gameOf (now (game .entry))) (now (x .entry)) (now (y .entry)) (now (moves1 .entry)) (now (moves2 .entry)) (now (moves1 .exit)) (now (moves2 .exit)) r ⌝ }
 {
-    let value1 = leaves::value(leaves, first, second, chance, payoffs1, x, y);
-    let value2 = leaves::value(leaves, first, second, chance, payoffs2, x, y);
+    let value1 = slices::sums::value(leaves, first, second, chance, payoffs1, x, y);
+    let value2 = slices::sums::value(leaves, first, second, chance, payoffs2, x, y);
     let sequences1 = bits::index(counts.first);
-    let best1 = responses::player_best(
+    let best1 = best::player_best(
         game,
         header,
         0,
@@ -71,7 +68,7 @@ fn of_gathered(
         moves1,
     );
     let sequences2 = bits::index(counts.second);
-    let best2 = responses::player_best(
+    let best2 = best::player_best(
         game,
         header,
         1,
@@ -122,7 +119,7 @@ fn with_leaves(
     let mut chance = [0u64; 4095];
     let mut payoffs1 = [0i16; 4095];
     let mut payoffs2 = [0i16; 4095];
-    let total = leaves::gather(
+    let total = gather::leaves::gather(
         game,
         header,
         own1,
@@ -155,13 +152,12 @@ fn with_leaves(
     )
 }
 
-// On the sets' first sequences and first nodes, and both players' own numbers to the nodes: the sets are gathered.
+// On the numbers of own sequences: the sets are gathered.
 fn with_sets(
     game: &[u8],
     header: Header,
     counts: SequenceCounts,
     starts: &[u64],
-    first: &[u64],
     own1: &[u64],
     own2: &[u64],
     x: &[u64],
@@ -169,7 +165,7 @@ fn with_sets(
     moves1: &mut [usize],
     moves2: &mut [usize],
 ) -> Values
-    requires { ⌜ (header ≡ headerOf (now game)) × GameRules (gameOf (now game)) × (counts ≡ countsOf (gameOf (now game))) × Holds (firstSequence (gameOf (now game))) (gameOf (now game) .sets) (now starts) × Holds (firstNode (gameOf (now game))) (gameOf (now game) .sets) (now first) × Holds (ownNumber (gameOf (now game)) one) (gameOf (now game) .nodes) (now own1) × Holds (ownNumber (gameOf (now game)) two) (gameOf (now game) .nodes) (now own2) × PairWeights (gameOf (now game)) (now x) (now y) × (4095 ≤ length (now moves1)) × (4095 ≤ length (now moves2)) ⌝ }
+    requires { ⌜ (header ≡ headerOf (now game)) × GameRules (gameOf (now game)) × (counts ≡ countsOf (gameOf (now game))) × OwnNumbers (gameOf (now game)) (now starts) (now own1) (now own2) × PairWeights (gameOf (now game)) (now x) (now y) × (4095 ≤ length (now moves1)) × (4095 ≤ length (now moves2)) ⌝ }
     ensures { λ r. ⌜ Evaluated (gameOf (now (game .entry))) (now (x .entry)) (now (y .entry)) (now (moves1 .entry)) (now (moves2 .entry)) (now (moves1 .exit)) (now (moves2 .exit)) r ⌝ }
 {
     let mut players = [0usize; 4095];
@@ -177,11 +173,10 @@ fn with_sets(
     let mut start = [0usize; 4095];
     let mut leads = [0usize; 4095];
     let mut node = [0usize; 4095];
-    sets::gather(
+    gather::sets::gather(
         game,
-        header.sets,
+        header,
         starts,
-        first,
         own1,
         own2,
         &mut players,
@@ -221,23 +216,15 @@ pub fn evaluate(
     requires { ⌜ (header ≡ headerOf (now game)) × GameRules (gameOf (now game)) × (counts ≡ countsOf (gameOf (now game))) × (4095 ≤ length (now x)) × (4095 ≤ length (now y)) × (4095 ≤ length (now moves1)) × (4095 ≤ length (now moves2)) × Small (length (now x)) (now x) × Small (length (now y)) (now y) × (pairFits (gameOf (now game)) (pairByNumber (gameOf (now game)) (entry (now x)) (entry (now y))) ≡ true) ⌝ }
     ensures { λ r. ⌜ (r ≡ valuesOf (gameOf (now (game .entry))) (pairByNumber (gameOf (now (game .entry))) (entry (now (x .entry))) (entry (now (y .entry))))) × (now (moves1 .exit) ≡ over (ownBestMove (gameOf (now (game .entry))) one (planByNumber (gameOf (now (game .entry))) two (entry (now (y .entry))))) (gameOf (now (game .entry)) .sets) (now (moves1 .entry))) × (now (moves2 .exit) ≡ over (ownBestMove (gameOf (now (game .entry))) two (planByNumber (gameOf (now (game .entry))) one (entry (now (x .entry))))) (gameOf (now (game .entry)) .sets) (now (moves2 .entry))) ⌝ }
 {
-    let records = header.records;
-    let nodes = header.nodes;
-    let sets = header.sets;
     let mut starts = [0u64; 4095];
-    let mut first = [0u64; 4095];
     let mut own1 = [0u64; 4095];
     let mut own2 = [0u64; 4095];
-    game::sets::first_sequences(game, sets, &mut starts);
-    game::sets::first_nodes(game, records, nodes, sets, &mut first);
-    recall::own_numbers(game, records, nodes, 0, &starts, &mut own1);
-    recall::own_numbers(game, records, nodes, 1, &starts, &mut own2);
+    gather::numbers::own_numbers(game, header, &mut starts, &mut own1, &mut own2);
     with_sets(
         game,
         header,
         counts,
         &starts,
-        &first,
         &own1,
         &own2,
         x,

@@ -1,11 +1,6 @@
-// The sequence form in number slices, prepared once a game: what values, best responses and the payoff table are computed from.
-pub mod chains;
+// The sequence form of an accepted game, evaluated for a pair of plans: values, best values and best moves of both players.
+pub mod best;
 pub mod evaluate;
-pub mod leaves;
-pub mod responses;
-pub mod sets;
-pub mod table;
-pub mod worths;
 
 // Each player's value, over D0 × D1 × D2, and his best value, over D0 × the other's D.
 pub struct Values {

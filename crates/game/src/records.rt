@@ -7,6 +7,8 @@ use super::Header;
 use super::NodeRecord;
 use super::Payload;
 use super::SetEntry;
+use reader::Pair;
+use reader::Reader;
 
 impl Header {
     pub const EDITION: u64 = 1;
@@ -15,12 +17,16 @@ impl Header {
     pub fn read(bytes: &[u8]) -> Self
         ensures { λ r. ⌜ r ≡ headerOf (now (bytes .entry)) ⌝ }
     {
-        let sets = bits::index(bits::field(bytes, 16, 12));
+        let mut reader = Reader::new(bytes, 0);
+        let edition = reader.next(4);
+        let nodes = reader.next(12) as usize;
+        let sets = reader.next(12) as usize;
+        let root_weight = reader.next(12);
         Header {
-            edition: bits::field(bytes, 0, 4),
-            nodes: bits::index(bits::field(bytes, 4, 12)),
+            edition,
+            nodes,
             sets,
-            root_weight: bits::field(bytes, 28, 12),
+            root_weight,
             records: 40 + 8 * sets,
         }
     }
@@ -35,11 +41,10 @@ impl SetEntry {
         requires { ⌜ h < 4096 ⌝ }
         ensures { λ r. ⌜ SetRead (now (bytes .entry)) h r ⌝ }
     {
-        let at = 40 + 8 * h;
-        SetEntry {
-            player: bits::field(bytes, at, 1),
-            moves: bits::index(bits::field(bytes, at + 1, 7)),
-        }
+        let mut reader = Reader::new(bytes, 40 + 8 * h);
+        let player = reader.next(1);
+        let moves = reader.next(7) as usize;
+        SetEntry { player, moves }
     }
 }
 
@@ -108,17 +113,20 @@ impl Payload {
         ensures { λ r. ⌜ r ≡ payloadOf (now (bytes .entry)) at kind ⌝ }
     {
         if kind == Payload::LEAF {
-            let payoff1 = bits::signed16(bits::field(bytes, at, 16));
-            let payoff2 = bits::signed16(bits::field(bytes, at + 16, 16));
+            let payoffs = Pair::read(bytes, at, 16, 16);
+            let payoff1 = bits::signed16(payoffs.first);
+            let payoff2 = bits::signed16(payoffs.second);
             return Payload::leaf(payoff1, payoff2);
         }
         if kind == Payload::DECISION {
-            let set = bits::index(bits::field(bytes, at, 12));
-            return Payload::decision(set, bits::field(bytes, at + 12, 20));
+            let fields = Pair::read(bytes, at, 12, 20);
+            let set = bits::index(fields.first);
+            return Payload::decision(set, fields.second);
         }
         if kind == Payload::CHANCE {
-            let moves = bits::index(bits::field(bytes, at, 7));
-            return Payload::chance(moves, bits::field(bytes, at + 7, 25));
+            let fields = Pair::read(bytes, at, 7, 25);
+            let moves = bits::index(fields.first);
+            return Payload::chance(moves, fields.second);
         }
         Payload::none()
     }
@@ -136,14 +144,17 @@ impl NodeRecord {
         requires { ⌜ (records ≡ nodeAt (now bytes) 0) × (n < 4096) ⌝ }
         ensures { λ r. ⌜ NodeRead (now (bytes .entry)) n r ⌝ }
     {
-        let at = records + 64 * n;
-        let kind = bits::field(bytes, at, 2);
-        let payload = Payload::read(bytes, at + 32, kind);
+        let mut reader = Reader::new(bytes, records + 64 * n);
+        let kind = reader.next(2);
+        let parent = reader.next(12) as usize;
+        let place = reader.next(6) as usize;
+        let weight = reader.next(12);
+        let payload = Payload::read(bytes, reader.position(), kind);
         NodeRecord {
             kind,
-            parent: bits::index(bits::field(bytes, at + 2, 12)),
-            place: bits::index(bits::field(bytes, at + 14, 6)),
-            weight: bits::field(bytes, at + 20, 12),
+            parent,
+            place,
+            weight,
             payload,
         }
     }

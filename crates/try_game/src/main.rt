@@ -312,7 +312,7 @@ fn try_fields(
     payoffs2: &mut [i64],
 ) {
     say(b"fields");
-    say_fields(entry::fields::game_fields(
+    say_fields(entry::game_fields(
         game,
         set_players,
         set_moves,

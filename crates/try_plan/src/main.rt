@@ -109,7 +109,7 @@ fn say_weights(weights: &[u64]) {
 // The line of one length of the buffer: the answer, and what the buffer holds afterwards.
 fn try_weights(game: &[u8], plan: &[u8], weights: &mut [u64]) {
     say_number(b"room ", weights.len() as u64);
-    say_given(entry::plans::plan_fields(game, plan, weights));
+    say_given(entry::plan_fields(game, plan, weights));
     say_weights(weights);
 }
 
@@ -135,7 +135,7 @@ fn try_files(name: &[u8], game: &[u8], plan: &[u8], trial: Trial) {
     match trial {
         Trial::Check => {
             say_name(name);
-            say_plan(entry::plans::check_plan(game, plan));
+            say_plan(entry::check_plan(game, plan));
             say(b"\n");
         }
         Trial::Rooms => {

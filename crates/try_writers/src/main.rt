@@ -72,7 +72,7 @@ fn say_start(buffer: &[u8])
 // The answer of a writer.
 fn say_written(answer: WriteAnswer) {
     match answer {
-        WriteAnswer::Written(size) => say_number(b": written ", size),
+        WriteAnswer::Written(size) => say_number(b": written ", size as u64),
         WriteAnswer::Refused(number) => say_number(b": refusal ", number),
     }
 }
@@ -135,7 +135,7 @@ fn put_payoffs(words: &[u64], payoffs: &mut [i64]) -> usize
 fn write_game(words: &[u64], payoffs1: &[i64], payoffs2: &[i64], out: &mut [u8]) -> WriteAnswer
     requires { ⌜ length (now words) ≡ 172 ⌝ }
 {
-    entry::writing::write_game(
+    entry::write_game(
         words[1],
         list(words, 2),
         list(words, 19),
@@ -167,7 +167,7 @@ fn try_game(words: &[u64], out: &mut [u8])
 fn try_plan(words: &[u64], out: &mut [u8])
     requires { ⌜ length (now words) ≡ 172 ⌝ }
 {
-    say_written(entry::writing::write_plan(words[1], words[2], list(words, 3), out));
+    say_written(entry::write_plan(words[1], words[2], list(words, 3), out));
     say_buffer(out);
 }
 
@@ -230,7 +230,7 @@ fn try_list(kind: Kind, name: &[u8]) {
 
 // Writes a game with D0 = 1 whose lists of sets are one list, and those of nodes another.
 fn write_alike(sets: &[u64], nodes: &[u64], payoffs: &[i64], out: &mut [u8]) -> WriteAnswer {
-    entry::writing::write_game(
+    entry::write_game(
         1,
         sets,
         sets,
@@ -269,7 +269,7 @@ fn try_long_game(sets: usize, nodes: usize)
 // The answer to a plan with D1 = D2 = 1, and the first bytes of its buffer.
 fn try_weights(weights: &[u64]) {
     let mut buffer = [HELD; ROOM];
-    say_written(entry::writing::write_plan(1, 1, weights, &mut buffer));
+    say_written(entry::write_plan(1, 1, weights, &mut buffer));
     say_start(&buffer);
 }
 

@@ -1,3 +1,5 @@
 pub mod Demands
+pub mod Judged
 pub mod Judging
 pub mod Strategies
+pub mod Valued

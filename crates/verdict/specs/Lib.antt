@@ -1,3 +1,5 @@
 pub mod Demand
 pub mod Judgement
 pub mod Strategy
+pub mod Values
+pub mod Verdicts

@@ -1,9 +1,40 @@
 // The verdict on a plan pair: who can gain and how much, and the best response that shows it.
 pub mod judgement;
 pub mod strategy;
+pub mod values;
+pub mod verdicts;
 
 // Nobody can gain; or the player, 1 or 2, and his gain over D0 × D1 × D2.
 pub enum Verdict {
     Equilibrium,
     Deviation { player: u64, gain: i64 },
+}
+
+// The players' values over D0 × D1 × D2, their best values over D0 × the other's D, and D0, D1 and D2; a refusal is 1 to 16.
+pub enum ValuesAnswer {
+    Given {
+        value1: i64,
+        value2: i64,
+        best1: i64,
+        best2: i64,
+        root_weight: u64,
+        first: u64,
+        second: u64,
+    },
+    Refused(u64),
+}
+
+// The verdict on a pair, with D0 × D1 × D2: accepted; or a player, 1 or 2, who can gain, his gain over it, and how many sets his strategy covers,
+// whose moves stand in the lent buffer; a refusal is 1 to 16, or 18.
+pub enum VerdictAnswer {
+    Accepted {
+        base: u64,
+    },
+    Deviation {
+        player: u64,
+        gain: i64,
+        base: u64,
+        sets: u64,
+    },
+    Refused(u64),
 }

@@ -15,7 +15,7 @@ pub enum Checked {
     Broken,
 }
 
-// The answer of a writer: how many bytes it wrote, or the refusal, 17 or 18.
+// The answer of what puts bytes into a lent buffer: how many, or the refusal: 17 or 18 of a writer, 1 to 16 or 18 of the report, 18 of a refusal's line.
 pub enum WriteAnswer {
     Written(usize),
     Refused(u64),

@@ -1,9 +1,9 @@
 //! The cases of `try_plan`, which reads plan files with their games.
 
-mod accepted;
+pub(crate) mod accepted;
 mod lines;
 mod order;
-mod refused;
+pub(crate) mod refused;
 
 pub use order::{pairs, Pair};
 
@@ -31,6 +31,9 @@ const READ_INTO_ROOMS: [&str; 8] = [
     "15-d1-zero",
     "16-moves-after-weight-0",
 ];
+
+/// A plan for each of 14, 15 and 16.
+const REFUSED_PLANS: [&str; 3] = ["one-byte-less", "d1-zero", "moves-after-weight-0"];
 
 /// A game file and a plan file with the refusal that they are made for, 0 where they
 /// break no rule.
@@ -65,17 +68,45 @@ pub fn all_cases() -> Result<Vec<Case>, Refusal> {
     Ok(cases)
 }
 
-/// The program with a folder for each case and the two lists.
+/// The first case for each refusal of a game, and one for each of a plan.
+pub(crate) fn refused_by_each() -> Result<Vec<Case>, Refusal> {
+    let mut cases = all_cases()?;
+    cases.retain(|case| case.title == "refused-game" || REFUSED_PLANS.contains(&case.title));
+    Ok(cases)
+}
+
 pub fn try_plan() -> Result<Program, Refusal> {
-    let cases = all_cases()?;
+    let output = Output {
+        check: lines::check_line,
+        rooms: lines::room_lines,
+        end: String::new(),
+    };
+    Ok(program("try_plan", all_cases()?, &READ_INTO_ROOMS, output))
+}
+
+/// What a program writes for a case of each of the two lists, and at the end.
+pub(crate) struct Output {
+    pub check: fn(&Case) -> String,
+    pub rooms: fn(&Case) -> String,
+    pub end: String,
+}
+
+/// A program with a folder for each case and the two lists.
+pub(crate) fn program(
+    name: &'static str,
+    cases: Vec<Case>,
+    into_rooms: &[&str],
+    output: Output,
+) -> Program {
     let in_rooms: Vec<&Case> = cases
         .iter()
-        .filter(|case| READ_INTO_ROOMS.contains(&case.name().as_str()))
+        .filter(|case| into_rooms.contains(&case.name().as_str()))
         .collect();
-    let mut stdout: String = cases.iter().map(lines::check_line).collect();
+    let mut stdout: String = cases.iter().map(output.check).collect();
     for case in &in_rooms {
-        stdout.push_str(&lines::room_lines(case));
+        stdout.push_str(&(output.rooms)(case));
     }
+    stdout.push_str(&output.end);
     let paths = |case: &Case| [case.game_path(), case.plan_path()];
     let mut files = vec![
         (LIST.to_string(), list(cases.iter().flat_map(paths))),
@@ -88,7 +119,7 @@ pub fn try_plan() -> Result<Program, Refusal> {
         let [game, plan] = paths(&case);
         files.extend([(game, case.game), (plan, case.plan)]);
     }
-    Ok(Program::new("try_plan", files, stdout))
+    Program::new(name, files, stdout)
 }
 
 /// The cases made for one refusal over one game, by their titles.
@@ -120,7 +151,11 @@ fn plan_of(one: &[u64], two: &[u64]) -> Result<Vec<u8>, Refusal> {
 }
 
 /// A case by its tables.
-fn fitting(title: &'static str, game: &GameTables, plan: &PlanWeights) -> Result<Case, Refusal> {
+pub(crate) fn fitting(
+    title: &'static str,
+    game: &GameTables,
+    plan: &PlanWeights,
+) -> Result<Case, Refusal> {
     Ok(Case {
         refusal: 0,
         title,

@@ -77,4 +77,52 @@ extern "C" {
         out_len: usize,
         length: *mut u64,
     ) -> u64;
+    pub fn desk_payoff_table(
+        game: *const u8,
+        game_len: usize,
+        sequence1: *mut u64,
+        sequence1_len: usize,
+        sequence2: *mut u64,
+        sequence2_len: usize,
+        sum1: *mut i64,
+        sum1_len: usize,
+        sum2: *mut i64,
+        sum2_len: usize,
+        rows: *mut u64,
+    ) -> u64;
+    pub fn desk_values(
+        game: *const u8,
+        game_len: usize,
+        plan: *const u8,
+        plan_len: usize,
+        value1: *mut i64,
+        value2: *mut i64,
+        best1: *mut i64,
+        best2: *mut i64,
+        d0: *mut u64,
+        d1: *mut u64,
+        d2: *mut u64,
+    ) -> u64;
+    pub fn desk_verdict(
+        game: *const u8,
+        game_len: usize,
+        plan: *const u8,
+        plan_len: usize,
+        player: *mut u64,
+        gain: *mut i64,
+        base: *mut u64,
+        count: *mut u64,
+        moves: *mut u64,
+        moves_len: usize,
+    ) -> u64;
+    pub fn desk_report(
+        game: *const u8,
+        game_len: usize,
+        plan: *const u8,
+        plan_len: usize,
+        out: *mut u8,
+        out_len: usize,
+        size: *mut u64,
+    ) -> u64;
+    pub fn desk_refusal_line(number: u64, out: *mut u8, out_len: usize, size: *mut u64) -> u64;
 }

@@ -1,8 +1,15 @@
-//! Safe wrappers over the proved library's exports. Nothing checks these declarations
-//! against the Rattle source, so each is used by the differential tests.
+//! Safe wrappers over the proved library's exports, whose declarations are held against the
+//! Rattle source by a test and are each used by the differential tests; and the built program,
+//! run in folders.
 
+pub mod drawn;
+pub mod form;
 pub mod plain;
+pub mod program;
+pub mod report;
+pub mod samples;
 pub mod timing;
+pub mod verdict;
 
 mod exports;
 
@@ -58,7 +65,7 @@ pub struct PlanBuffers {
     pub weights: Vec<u64>,
 }
 
-/// What is lent to a writer: a buffer for the file, and a number for its length.
+/// What is lent for a file or a text: a buffer, and a number for its length.
 #[derive(Clone, Debug, PartialEq, Eq)]
 pub struct Output {
     pub bytes: Vec<u8>,

@@ -1,8 +1,15 @@
 //! Checks 1 to 13 in plain Rust by the proved library's own method: the same passes,
 //! the same fixed arrays, records read by value. Only for measuring beside it.
 
+pub mod form;
 pub mod plan;
+pub mod responses;
+pub mod table;
+pub mod verdict;
 pub mod write;
+
+mod leaves;
+mod worths;
 
 use crate::{Counts, Refusal};
 

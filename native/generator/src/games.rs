@@ -5,6 +5,8 @@ use crate::rng::Rng;
 use crate::shape::Shape;
 use crate::tables::{GameTables, Place};
 use crate::tree::{DraftKind, Tree};
+use reference::brute::pure_strategies;
+use reference::game::{check_game, Player};
 
 /// A random game of that shape.
 pub fn random_game(rng: &mut Rng, shape: &Shape) -> GameTables {
@@ -30,4 +32,25 @@ pub fn random_game(rng: &mut Rng, shape: &Shape) -> GameTables {
         };
     }
     tables
+}
+
+/// A random game of at most 60 nodes in which neither player has more than `limit` pure
+/// strategies.
+pub fn game_of_few_strategies(rng: &mut Rng, limit: usize) -> GameTables {
+    loop {
+        let shape = if rng.percent(50) {
+            Shape::random(rng, 36, 4)
+        } else {
+            Shape::crowded(rng, 60)
+        };
+        let tables = random_game(rng, &shape);
+        let game = tables.bytes().and_then(|bytes| check_game(&bytes));
+        let few = |game: &_| {
+            let mut players = Player::BOTH.iter();
+            players.all(|&player| pure_strategies(game, player, limit).is_some())
+        };
+        if game.is_ok_and(|game| few(&game)) {
+            return tables;
+        }
+    }
 }

@@ -1,7 +1,8 @@
 //! Pairs at or near an equilibrium.
 
-use crate::plans::{pure_weights, random_pure_plan};
+use crate::plans::{pure_weights, random_plan, random_pure_plan};
 use crate::rng::Rng;
+use crate::shape::random_count;
 use crate::tables::PlanWeights;
 use reference::form::best_response;
 use reference::game::{Game, Move, Player};
@@ -65,6 +66,34 @@ pub fn shift_one(rng: &mut Rng, plan: &Plan, player: Player) -> Option<PlanWeigh
     let mut shifted = PlanWeights::of(plan);
     shifted.weights[player.index()] = shift.weights;
     Some(shifted)
+}
+
+/// A random pair, one of averaged best responses and, where it is found, an equilibrium with
+/// the pairs that are one unit away from it.
+pub fn pairs_near(rng: &mut Rng, game: &Game) -> Vec<PlanWeights> {
+    let denominators = [random_count(rng), random_count(rng)];
+    let mut pairs = vec![random_plan(rng, game, denominators)];
+    let rounds = rng.below(12);
+    pairs.extend(averaged_best_responses(game, rounds));
+    if let Some(found) = pure_equilibrium(rng, game, 12) {
+        let factors = [random_count(rng), random_count(rng)];
+        let scaled = found.scaled(factors);
+        pairs.extend(shifted_by_one(rng, game, &scaled));
+        pairs.push(scaled);
+    }
+    pairs
+}
+
+/// A pair with one unit of one player's weight moved, for each player who can.
+pub fn shifted_by_one(rng: &mut Rng, game: &Game, pair: &PlanWeights) -> Vec<PlanWeights> {
+    let bytes = pair.bytes().unwrap_or_default();
+    let Ok(plan) = check_plan(game, &bytes) else {
+        return Vec::new();
+    };
+    let players = Player::BOTH.iter();
+    players
+        .filter_map(|&player| shift_one(rng, &plan, player))
+        .collect()
 }
 
 /// A player's weights while units are moved.

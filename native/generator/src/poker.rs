@@ -58,6 +58,23 @@ pub fn kuhn_equilibrium(thirds: u64, bluffs: u64) -> PlanWeights {
     }
 }
 
+/// The equilibrium without bluffs, but player 1 always bets with the highest card: his bet says
+/// what he holds.
+pub fn kuhn_without_bluffs() -> PlanWeights {
+    let mut pair = kuhn_equilibrium(1, 0);
+    pair.weights[0][9..13].copy_from_slice(&[0, 3, 0, 0]);
+    pair
+}
+
+/// An equilibrium, but player 2 calls every bet.
+pub fn kuhn_with_every_call() -> PlanWeights {
+    let mut pair = kuhn_equilibrium(2, 1);
+    for card in 0..RANKS {
+        pair.weights[1][4 * card + 3..4 * card + 5].copy_from_slice(&[0, 3]);
+    }
+    pair
+}
+
 /// Leduc poker: two cards of each of three ranks, ante 1, bets of 2 and then 4,
 /// at most one raise in each of the two rounds.
 pub fn leduc() -> GameTables {

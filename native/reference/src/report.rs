@@ -10,8 +10,13 @@ use crate::Refusal;
 pub fn report(game_file: &[u8], plan_file: &[u8]) -> String {
     match lines(game_file, plan_file) {
         Ok(lines) => lines.iter().map(|line| format!("{line}\n")).collect(),
-        Err(refusal) => format!("refusal {refusal}\n"),
+        Err(refusal) => refusal_line(refusal.into()),
     }
+}
+
+/// The line for a refusal's number, whatever number it is.
+pub fn refusal_line(number: u64) -> String {
+    format!("refusal {number}\n")
 }
 
 fn lines(game_file: &[u8], plan_file: &[u8]) -> Result<Vec<String>, Refusal> {

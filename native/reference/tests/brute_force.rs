@@ -1,11 +1,9 @@
 //! Best values and verdicts against every pure strategy of small games.
 
-use generator::games::random_game;
-use generator::near::{averaged_best_responses, pure_equilibrium, shift_one};
+use generator::games::game_of_few_strategies;
+use generator::near::pairs_near;
 use generator::plans::{pure_weights, random_plan};
 use generator::rng::Rng;
-use generator::shape::{random_count, Shape};
-use generator::tables::PlanWeights;
 use reference::brute;
 use reference::form::{best_response, value_count};
 use reference::game::{check_game, Game, Kind, Move, Player};
@@ -28,37 +26,8 @@ struct Tally {
 }
 
 fn small_game(rng: &mut Rng) -> Game {
-    loop {
-        let shape = if rng.percent(50) {
-            Shape::random(rng, 36, 4)
-        } else {
-            Shape::crowded(rng, 60)
-        };
-        let game = check_game(&random_game(rng, &shape).bytes().unwrap()).unwrap();
-        let few = |&player: &Player| brute::pure_strategies(&game, player, LIMIT).is_some();
-        if Player::BOTH.iter().all(few) {
-            return game;
-        }
-    }
-}
-
-/// Random pairs, and pairs at and next to an equilibrium.
-fn pairs(rng: &mut Rng, game: &Game) -> Vec<PlanWeights> {
-    let denominators = [random_count(rng), random_count(rng)];
-    let mut pairs = vec![random_plan(rng, game, denominators)];
-    let rounds = rng.below(12);
-    pairs.extend(averaged_best_responses(game, rounds));
-    if let Some(found) = pure_equilibrium(rng, game, 12) {
-        let factors = [random_count(rng), random_count(rng)];
-        let scaled = found.scaled(factors);
-        let bytes = scaled.bytes().unwrap();
-        let plan = check_plan(game, &bytes).unwrap();
-        for player in Player::BOTH {
-            pairs.extend(shift_one(rng, &plan, player));
-        }
-        pairs.push(scaled);
-    }
-    pairs
+    let tables = game_of_few_strategies(rng, LIMIT);
+    check_game(&tables.bytes().unwrap()).unwrap()
 }
 
 fn count_game(tally: &mut Tally, game: &Game) {
@@ -113,7 +82,7 @@ fn verdicts_agree_with_all_pure_strategies() {
     for _ in 0..4_000 {
         let game = small_game(&mut rng);
         count_game(&mut tally, &game);
-        for pair in pairs(&mut rng, &game) {
+        for pair in pairs_near(&mut rng, &game) {
             let bytes = pair.bytes().unwrap();
             let plan = check_plan(&game, &bytes).unwrap();
             compare(&plan);

@@ -11,7 +11,8 @@ use Rattle.entry.specs.declared.NodeAnswer.the-variants.{Refused}
 use Rattle.entry.specs.Answers.{nodeAnswer}
 use Rattle.entry.proofs.Answers.{node-is-read}
 use Rattle.game.proofs.Outcomes.{Opened, opened, sent, refuses}
-use Rattle.entry.proofs.Refusals.{game-first, number-missing, number-found}
+use Rattle.calls.proofs.Refusals.{game-first}
+use Rattle.entry.proofs.Numbers.{number-missing, number-found}
 use Rattle.entry.proofs.node_record.Statement.{statement}
 use Rattle.entry.proofs.node_record.Tie as tie
 

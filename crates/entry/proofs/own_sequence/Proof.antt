@@ -10,7 +10,8 @@ use Rattle.entry.specs.declared.SequenceAnswer.the-variants.{Refused}
 use Rattle.entry.specs.Answers.{sequenceAnswer}
 use Rattle.entry.proofs.Answers.{sequence-is-read}
 use Rattle.game.proofs.Outcomes.{Opened, opened, sent, refuses}
-use Rattle.entry.proofs.Refusals.{game-first, number-missing, number-found}
+use Rattle.calls.proofs.Refusals.{game-first}
+use Rattle.entry.proofs.Numbers.{number-missing, number-found}
 use Rattle.entry.proofs.own_sequence.Statement.{statement}
 use Rattle.entry.proofs.own_sequence.Tie as tie
 

@@ -10,7 +10,8 @@ use Rattle.entry.specs.declared.SetAnswer.the-variants.{Refused}
 use Rattle.entry.specs.Answers.{setAnswer}
 use Rattle.entry.proofs.Answers.{set-is-read}
 use Rattle.game.proofs.Outcomes.{Opened, opened, sent, refuses}
-use Rattle.entry.proofs.Refusals.{game-first, number-missing, number-found}
+use Rattle.calls.proofs.Refusals.{game-first}
+use Rattle.entry.proofs.Numbers.{number-missing, number-found}
 use Rattle.entry.proofs.set_entry.Statement.{statement}
 use Rattle.entry.proofs.set_entry.Tie as tie
 

@@ -1,6 +1,4 @@
 -- The length goes to the reference; a refusal leaves it as it was.
-use mathlib.Core.Path.{sym, _∙_}
-use borrow.Author.Needs.{needs}
 use lib.ListN.{length}
 use Rattle.model.specs.Writing.{planBytes}
 use Rattle.writers.specs.PlanWriter.{planWriterRefusal}
@@ -11,29 +9,23 @@ use Rattle.ffi.proofs.desk_write_plan.Tie as tie
 sends-on : tie.Need-returns
 sends-on c =
     let a = c .before .before .before .before .before .before .before .before .before .args in
-    let bytes = planBytes (a .d1) (a .d2) (a .weights .now) in
-    let k = planWriterRefusal (a .d1) (a .d2) (a .weights .now) (length (a .out .now)) in
-    let e = c .before .before .before .before .before .write-plan .ensures in
-    let s = written bytes (a .size .now) k (sym (c .before .answer .given .1) ∙ e .0) in
-    (s .0, (e .1, s .1))
+    let e = c .before .before .before .before .before .write .ensures in
+    written (planBytes (a .d1) (a .d2) (a .weights .now)) (a .size .now) (a .out .now) (planWriterRefusal (a .d1) (a .d2) (a .weights .now) (length (a .out .now))) (e .0) (e .1) (c .before .answer .given .1)
 
 sends-back : tie.Need-returns-2
 sends-back c =
     let a = c .before .before .before .before .before .before .before .before .before .args in
-    let bytes = planBytes (a .d1) (a .d2) (a .weights .now) in
-    let k = planWriterRefusal (a .d1) (a .d2) (a .weights .now) (length (a .out .now)) in
-    let e = c .before .before .before .before .before .write-plan .ensures in
-    let s = not-written bytes (a .size .now) k (sym (c .before .answer2 .given .1) ∙ e .0) in
-    (s .0, (e .1, s .1))
+    let e = c .before .before .before .before .before .write .ensures in
+    not-written (planBytes (a .d1) (a .d2) (a .weights .now)) (a .size .now) (a .out .now) (planWriterRefusal (a .d1) (a .d2) (a .weights .now) (length (a .out .now))) (e .0) (e .1) (c .before .answer2 .given .1)
 
 pub desk-write-plan-spec : {M : Type 1} → statement M
 desk-write-plan-spec =
     tie.close
     (tie.spec
-    (λ c κs. search needs)
-    (λ c. search needs)
-    (λ c. search needs)
-    (λ c. search needs)
+    (λ c κs. tt)
+    (λ c. c .match .keys1)
+    (λ c. c .match .keys2)
+    (λ c. c .before .before .before .before .before .write .kept .1 .1 .1 .0)
     sends-on
-    (λ c. search needs)
+    (λ c. c .before .before .before .before .before .write .kept .1 .1 .1 .0)
     sends-back)

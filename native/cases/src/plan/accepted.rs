@@ -21,7 +21,7 @@ pub fn cases() -> Result<Vec<Case>, Refusal> {
 }
 
 /// The plans that document 01 gives for its game, of 6 moves.
-fn study_cases() -> Result<Vec<Case>, Refusal> {
+pub fn study_cases() -> Result<Vec<Case>, Refusal> {
     let study = study_game();
     Ok(vec![
         fitting("study-game-q", &study, &plan_q())?,
@@ -87,7 +87,7 @@ fn large_cases() -> Result<Vec<Case>, Refusal> {
 }
 
 /// A game with the plan that shares 4,095 and 4,094 out as evenly as can be.
-fn even(title: &'static str, tables: &GameTables) -> Result<Case, Refusal> {
+pub fn even(title: &'static str, tables: &GameTables) -> Result<Case, Refusal> {
     let game = check_game(&tables.bytes()?)?;
     fitting(title, tables, &even_plan(&game, [4_095, 4_094]))
 }

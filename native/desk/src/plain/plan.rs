@@ -75,39 +75,54 @@ impl Frame<'_> {
     }
 }
 
+/// Both players' weights by sequence number, D1 and D2 first.
+pub(super) struct Pair {
+    pub weights: [[u64; LIMIT]; 2],
+    /// How many moves each player has.
+    pub moves: [usize; 2],
+}
+
+impl Frame<'_> {
+    /// Checks 14 to 16.
+    pub(super) fn fitting<R: Reader>(&self, plan: &[u8]) -> Result<Pair, Refusal> {
+        let mut starts = [0u64; LIMIT];
+        let moves = self
+            .first_sequences::<R>(&mut starts)
+            .map(|count| count as usize - 1);
+        let total = moves[0] + moves[1];
+        if plan.len() != 4 + (WIDTH * total).div_ceil(8) {
+            return Err(14);
+        }
+        let header = Header::read::<R>(plan, total);
+        if !header.well_formed() {
+            return Err(15);
+        }
+        let mut weights = [[0u64; LIMIT]; 2];
+        weights[0][0] = header.d1;
+        weights[1][0] = header.d2;
+        read_run::<R>(plan, HEADER_BITS, moves[0], &mut weights[0], 1);
+        let second = HEADER_BITS + WIDTH * moves[0];
+        read_run::<R>(plan, second, moves[1], &mut weights[1], 1);
+        if !self.pair_fits::<R>(&starts, &weights) {
+            return Err(16);
+        }
+        Ok(Pair { weights, moves })
+    }
+}
+
 /// D1, D2 and all weights in file order: 1 to 16, then 18.
 pub fn plan_fields<R: Reader>(
     game: &[u8],
     plan: &[u8],
     buffers: &mut PlanBuffers,
 ) -> Result<(), Refusal> {
-    let frame = accepted::<R>(game)?;
-    let mut starts = [0u64; LIMIT];
-    let [count1, count2] = frame
-        .first_sequences::<R>(&mut starts)
-        .map(|count| count as usize - 1);
-    let moves = count1 + count2;
-    if plan.len() != 4 + (WIDTH * moves).div_ceil(8) {
-        return Err(14);
-    }
-    let header = Header::read::<R>(plan, moves);
-    if !header.well_formed() {
-        return Err(15);
-    }
-    let mut weights = [[0u64; LIMIT]; 2];
-    weights[0][0] = header.d1;
-    weights[1][0] = header.d2;
-    read_run::<R>(plan, HEADER_BITS, count1, &mut weights[0], 1);
-    let second = HEADER_BITS + WIDTH * count1;
-    read_run::<R>(plan, second, count2, &mut weights[1], 1);
-    if !frame.pair_fits::<R>(&starts, &weights) {
-        return Err(16);
-    }
+    let pair = accepted::<R>(game)?.fitting::<R>(plan)?;
+    let moves = pair.moves[0] + pair.moves[1];
     if buffers.weights.len() < moves {
         return Err(18);
     }
     read_run::<R>(plan, HEADER_BITS, moves, &mut buffers.weights, 0);
-    buffers.d1 = header.d1;
-    buffers.d2 = header.d2;
+    buffers.d1 = pair.weights[0][0];
+    buffers.d2 = pair.weights[1][0];
     Ok(())
 }

@@ -6,7 +6,7 @@ use mir.Syntax.{w64}
 use mir.Facts.{toZ-ofZ}
 use Rattle.model.specs.Game.{gameOf, one, two}
 use Rattle.model.proofs.Budget.{game-limits}
-use Rattle.form.proofs.LeafLaws.{player-leaves}
+use Rattle.gather.proofs.LeafColumns.{player-leaves}
 use Rattle.form.proofs.PairBudget.{opponent1, opponent2}
 use Rattle.form.proofs.Evaluating.{counts-first, counts-second, pair-value-ready, pair-value, values-are}
 use Rattle.form.proofs.evaluate.of_gathered.Statement.{statement}

@@ -1,9 +1,6 @@
 -- The leaves that were gathered are all leaves.
 use native.Mathlib.Omega.{arith}
 use borrow.Author.Needs.{needs}
-use Rattle.model.specs.Game.{gameOf}
-use Rattle.model.proofs.Budget.{game-limits}
-use Rattle.form.proofs.LeafLaws.{gathered}
 use Rattle.form.proofs.evaluate.with_leaves.Statement.{statement}
 use Rattle.form.proofs.evaluate.with_leaves.Tie as tie
 
@@ -14,10 +11,8 @@ gather-requires c κs =
 
 of-gathered-requires : tie.Need-of-gathered-requires
 of-gathered-requires c κs =
-    let s = c .before .before .before .before .before .before .before .before .before .before .before .before .before .before .before .before .before .before .before .before .before .before .before .before .before .before .before .before .before .before in
-    let q = s .pre in
-    let game = s .args .game .now in
-    (q .0, q .1, q .2, gathered (gameOf game) (game-limits game .nodes) _ _ _ _ _ (c .before .before .before .before .before .before .before .before .before .before .before .before .gather .ensures) (omega arith) (omega arith) (omega arith) (omega arith) (omega arith), q .5, q .6, q .7, q .8)
+    let q = c .before .before .before .before .before .before .before .before .before .before .before .before .before .before .before .before .before .before .before .before .before .before .before .before .before .before .before .before .before .before .pre in
+    (q .0, q .1, q .2, c .before .before .before .before .before .before .before .before .before .before .before .before .gather .ensures, q .5, q .6, q .7, q .8)
 
 pub with-leaves-spec : {M : Type 1} → statement M
 with-leaves-spec =

@@ -12,26 +12,29 @@ use Rattle.game.proofs.Payload.read.Tie as tie
 leaf : tie.Need-returns
 unfolding payloadOf
 leaf c =
+    let fields = c .before .before .before .read .ensures in
     rw (
-      c .before .before .before .before .before .if1 .taken,
+      c .before .before .before .before .if1 .taken,
       c .leaf .ensures,
-      toZ-ofZ {w = w16} {z = c .before .before .before .signed16 .result} (record { sfits = c .before .before .before .signed16 .ok }),
+      toZ-ofZ {w = w16} {z = c .before .before .signed16 .result} (record { sfits = c .before .before .signed16 .ok }),
       toZ-ofZ {w = w16} {z = c .before .signed162 .result} (record { sfits = c .before .signed162 .ok }),
-      c .before .before .before .signed16 .ensures,
+      c .before .before .signed16 .ensures,
       c .before .signed162 .ensures,
-      c .before .before .before .before .field .ensures .0,
-      c .before .before .field2 .ensures .0,
+      fields .0,
+      fields .1,
     )
 
 decision : tie.Need-returns-2
 unfolding payloadOf
 decision c =
-    rw (c .before .before .before .before .if2 .taken, c .decision .ensures, c .before .before .index .ensures, c .before .before .before .field3 .ensures .0, c .before .field4 .ensures .0)
+    let fields = c .before .before .read2 .ensures in
+    rw (c .before .before .before .if2 .taken, c .decision .ensures, c .before .index .ensures, fields .0, fields .1)
 
 chance : tie.Need-returns-3
 unfolding payloadOf
 chance c =
-    rw (c .before .before .before .before .if3 .taken, c .chance .ensures, c .before .before .index2 .ensures, c .before .before .before .field5 .ensures .0, c .before .field6 .ensures .0)
+    let fields = c .before .before .read3 .ensures in
+    rw (c .before .before .before .if3 .taken, c .chance .ensures, c .before .index2 .ensures, fields .0, fields .1)
 
 none : tie.Need-returns-4
 none c = c .none .ensures ∙ sym (other-payload _ _ _ (omega arith))
@@ -42,20 +45,14 @@ read-spec =
     (tie.spec
     (λ c κs. search needs)
     (λ c κs. search needs)
-    (λ c. search needs)
-    (λ c κs. search needs)
     (λ c κs. search needs)
     (λ c κs. search needs)
     leaf
     (λ c κs. search needs)
     (λ c κs. search needs)
-    (λ c. search needs)
-    (λ c κs. search needs)
     (λ c κs. search needs)
     decision
     (λ c κs. search needs)
-    (λ c κs. search needs)
-    (λ c. search needs)
     (λ c κs. search needs)
     (λ c κs. search needs)
     chance

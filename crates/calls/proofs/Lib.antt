@@ -1,0 +1,3 @@
+pub mod Denominators
+pub mod Refusals
+pub mod Rooms

@@ -1,0 +1,23 @@
+-- Four tests, the last buffer's first.
+use borrow.Author.Needs.{needs}
+use Rattle.entry.proofs.table.has_room.Statement.{statement}
+use Rattle.entry.proofs.table.has_room.Tie as tie
+
+all-tested : tie.Need-returns
+all-tested c =
+    rw (
+      c .room-and4 .ensures,
+      c .before .room-and3 .ensures,
+      c .before .before .room-and2 .ensures,
+      c .before .before .before .room-and .ensures,
+    )
+
+pub has-room-spec : {M : Type 1} → statement M
+has-room-spec =
+    tie.close
+    (tie.spec
+    (λ c κs. search needs)
+    (λ c κs. search needs)
+    (λ c κs. search needs)
+    (λ c κs. search needs)
+    all-tested)

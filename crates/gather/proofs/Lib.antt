@@ -1,0 +1,4 @@
+pub mod Gathering
+pub mod LeafColumns
+pub mod LeafSums
+pub mod SetColumns

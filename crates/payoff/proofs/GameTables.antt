@@ -1,0 +1,155 @@
+-- The table over a game's leaves is the game's payoff table, and no sum of it leaves its range.
+use Prim.Native.Nat.{ℕ, _≤_, _<_}
+use mathlib.Core.Path.{_≡_, refl, sym, ap, _∙_}
+use mathlib.Core.Bool.{Bool, true, false, _&&_}
+use mathlib.Core.List.{List}
+use native.Mathlib.Omega.{arith}
+use lib.Dec.{T, eqb}
+use lib.ListN.{length}
+use lib.IntN.{ℤ, pos}
+use mir.Syntax.{w64}
+use mir.Val.{SFits}
+use mir.Facts.{and-yes, yes-and}
+use Rattle.algebra.specs.Bounded.{sumTo, sumWhere, anyTo}
+use Rattle.algebra.proofs.Tests.{bool-same}
+use Rattle.algebra.proofs.Lists.{joinTo-cong}
+use Rattle.algebra.proofs.Searches.{anyTo-find, anyTo-make}
+use Rattle.algebra.proofs.Counts.{only-most}
+use Rattle.algebra.proofs.Sums.{onlyZ, onlyZ-and, sum-cong, whereZ-is}
+use Rattle.model.specs.Game.{Game, Player, one, two, isLeaf}
+use Rattle.model.specs.Sequences.{extended, leading, sequenceCount}
+use Rattle.model.specs.Earnings.{consistent}
+use Rattle.model.specs.Table.{ownNumber, standsAt, weighedPayoff, pairSum, rowAt, rowsAt, payoffTable}
+use Rattle.model.specs.Demand1.{GameRules}
+use Rattle.model.proofs.Budget.{GameLimits, PlanLimits, budget}
+use Rattle.model.proofs.Numbers.{own-number-below, sequences-few}
+use Rattle.model.proofs.Strategies.{purePlan, pure-fits, some-pure}
+use Rattle.gather.specs.Leaves.{leafAt, leavesBelow, leavesOf, leafOf, Column, Gathered, ofPlayer}
+use Rattle.payoff.specs.Table.{Keyed, weighedAt, standsBy, pairSumBy, rowOf, rowsBy, tableBy, TableIn, Addable, Tabular}
+use Rattle.payoff.proofs.Entries.{Every, every-where, every-join, Among, among-where, among-join}
+use Rattle.gather.proofs.Gathering.{all-few}
+use Rattle.gather.proofs.LeafSums.{leaves-sum, leaves-prefix, leaf-in}
+use Rattle.gather.proofs.LeafColumns.{player-leaves}
+
+module _ (g : Game) where
+  -- the leaves are leaves
+  leaf-is : Every (λ n. T (isLeaf g n)) (leavesOf g)
+  unfolding leavesOf leavesBelow leafAt
+  leaf-is = every-join (λ n. T (isLeaf g n)) (g .nodes) (leafAt g) (λ n l. every-where (λ n. T (isLeaf g n)) (isLeaf g n) n (λ t. t))
+
+  -- and each leaf is one of them
+  leaf-among : (n : ℕ) → n < g .nodes → T (isLeaf g n) → Among n (leavesOf g)
+  unfolding leavesOf leavesBelow leafAt
+  leaf-among n l t = among-join n (g .nodes) (leafAt g) n l (among-where (isLeaf g n) n t)
+
+  -- node n stands at the pair, whether or not it is a leaf
+  abbrev atPair : (s t n : ℕ) → Bool
+  atPair s t n = eqb (ownNumber g one n) s && eqb (ownNumber g two n) t
+
+  -- a leaf at the pair
+  stands-is : (s t n : ℕ) → standsAt g s t n ≡ (isLeaf g n && atPair s t n)
+  unfolding standsAt
+  stands-is s t n = and-assoc (isLeaf g n) (eqb (ownNumber g one n) s) (eqb (ownNumber g two n) t)
+    where
+      and-assoc : (a b c : Bool) → (a && b && c) ≡ (a && (b && c))
+      and-assoc true b c = refl
+      and-assoc false b c = refl
+
+  -- what node n counts at the pair
+  abbrev counts : (p : Player) (s t n : ℕ) → ℤ
+  counts p s t n = onlyZ (atPair s t n) (weighedPayoff g p n)
+
+  leaves-at : (p : Player) (s t m : ℕ) → sumWhere m (isLeaf g) (counts p s t) ≡ sumWhere m (standsAt g s t) (weighedPayoff g p)
+  leaves-at p s t m =
+      whereZ-is m (isLeaf g) (counts p s t)
+      ∙ sum-cong m _ _ (λ n l. onlyZ-and (isLeaf g n) (atPair s t n) (weighedPayoff g p n) ∙ ap (λ (b : Bool). onlyZ b (weighedPayoff g p n)) (sym (stands-is s t n)))
+      ∙ sym (whereZ-is m (standsAt g s t) (weighedPayoff g p))
+
+  -- Partial sums of a pair are in range by the budget of a pair of plans, here the plans that take each set's first move.
+  table-fits : GameRules g → GameLimits g → (p : Player) (s t k : ℕ) → k ≤ g .nodes → SFits w64 (sumWhere k (standsAt g s t) (weighedPayoff g p))
+  unfolding purePlan
+  table-fits R M = budget g R M (λ p. purePlan g (λ h. 0)) (λ p. pure-fits g R p (λ h. 0) (some-pure g R p)) (λ p. small) .table
+    where
+      small : PlanLimits (purePlan g (λ h. 0))
+      small = record { denominator = omega arith; weights = λ h m. omega (arith, only-most (consistent (λ h. 0) (extended (leading g h) h m)) 1) }
+
+  module _ {count : ℕ} {first second chance : List ℕ} {payoffs1 payoffs2 : List ℤ} (L : Gathered g count first second chance payoffs1 payoffs2) where
+    -- a place stands at the pair where its leaf does
+    place-is : (s t k : ℕ) → k < length (leavesOf g) → standsBy first second s t k ≡ atPair s t (leafOf g k)
+    unfolding standsBy
+    place-is s t k l = rw (L .first-is .at 0 k l, L .second-is .at 0 k l)
+
+    payoff-is : (p : Player) → Column g (g .payoff p) (ofPlayer p payoffs1 payoffs2)
+    payoff-is p = player-leaves g p L .payoffs-is
+
+    -- the first leaves of a pair, added up
+    prefix-is : (p : Player) (s t j : ℕ) → j ≤ count → pairSumBy first second chance (ofPlayer p payoffs1 payoffs2) j s t ≡ sumTo j (λ k. counts p s t (leafOf g k))
+    unfolding pairSumBy weighedAt weighedPayoff
+    prefix-is p s t j l =
+        whereZ-is j _ _
+        ∙ sum-cong j _ _ (λ k v. let u : k < length (leavesOf g) = omega (arith, L .counted) in rw (place-is s t k u, L .chance-is .at 0 k u, payoff-is p .at (pos 0) k u))
+
+    -- all of them are the model's
+    sum-is : (p : Player) (s t : ℕ) → pairSumBy first second chance (ofPlayer p payoffs1 payoffs2) count s t ≡ pairSum g p s t
+    unfolding pairSum
+    sum-is p s t =
+        prefix-is p s t count (omega arith)
+        ∙ ap (λ (n : ℕ). sumTo n (λ k. counts p s t (leafOf g k))) (L .counted)
+        ∙ leaves-sum g (counts p s t)
+        ∙ leaves-at p s t (g .nodes)
+
+    -- some place stands at a pair where some node does
+    any-is : (s t : ℕ) → anyTo count (standsBy first second s t) ≡ anyTo (g .nodes) (standsAt g s t)
+    unfolding leafOf
+    any-is s t = bool-same (anyTo count (standsBy first second s t)) (anyTo (g .nodes) (standsAt g s t)) to from
+      where
+        to : T (anyTo count (standsBy first second s t)) → T (anyTo (g .nodes) (standsAt g s t))
+        to u =
+            let f = anyTo-find count (standsBy first second s t) u in
+            let k = f .0 in
+            let l : k < length (leavesOf g) = omega (arith, f .1, L .counted) in
+            anyTo-make (g .nodes) (standsAt g s t) (leafOf g k) (leaf-in g k l) (rw (stands-is s t (leafOf g k)) (yes-and (isLeaf g (leafOf g k)) (atPair s t (leafOf g k)) (leaf-is k l) (rw (place-is s t k l) at (f .2))))
+
+        from : T (anyTo (g .nodes) (standsAt g s t)) → T (anyTo count (standsBy first second s t))
+        from u =
+            let f = anyTo-find (g .nodes) (standsAt g s t) u in
+            let h = and-yes (isLeaf g (f .0)) (atPair s t (f .0)) (rw (stands-is s t (f .0)) at (f .2)) in
+            let m = leaf-among (f .0) (f .1) (h .0) in
+            anyTo-make count (standsBy first second s t) (m .0) (omega (arith, m .1, L .counted)) (rw (place-is s t (m .0) (m .1), m .2) (h .1))
+
+    -- the table over the slices is the game's
+    table-is : tableBy first second count chance payoffs1 payoffs2 (sequenceCount g one) (sequenceCount g two) ≡ payoffTable g
+    unfolding tableBy rowsBy rowOf payoffTable rowsAt rowAt
+    table-is = joinTo-cong (sequenceCount g one) _ _ (λ s l. joinTo-cong (sequenceCount g two) _ _ (λ t v. rw (any-is s t, sum-is one s t, sum-is two s t)))
+
+    -- no partial sum leaves its range
+    addable : GameLimits g → ((p : Player) (s t k : ℕ) → k ≤ g .nodes → SFits w64 (sumWhere k (standsAt g s t) (weighedPayoff g p))) → (p : Player) → Addable count first second chance (ofPlayer p payoffs1 payoffs2)
+    addable M fits p = record {
+      chance-long = omega (arith, L .counted, L .chance-is .long);
+      payoffs-long = omega (arith, L .counted, payoff-is p .long);
+      chance-small = λ k l. rw (L .chance-is .at 0 k (omega (arith, L .counted))) (M .weights (leafOf g k));
+      fit = λ n s t l. let r = leaves-prefix g (counts p s t) n (omega (arith, L .counted)) in rw (prefix-is p s t n l, r .2, leaves-at p s t (r .0)) (fits p s t (r .0) (r .1));
+    }
+
+    -- a player's sequence numbers are keys
+    column-keyed : GameRules g → (p : Player) {l : List ℕ} → Column g (ownNumber g p) l → Keyed l count (sequenceCount g p)
+    column-keyed R p C = record {
+      long = omega (arith, L .counted, C .long);
+      below = λ k v. rw (C .at 0 k (omega (arith, L .counted))) (own-number-below g R p (leafOf g k) (leaf-in g k (omega (arith, L .counted))));
+    }
+
+    -- what `rows` requires of the slices holds
+    pub tabular : GameRules g → GameLimits g → Tabular count (sequenceCount g one) (sequenceCount g two) first second chance payoffs1 payoffs2
+    tabular R M = record {
+      first-keyed = column-keyed R one (L .first-is);
+      second-keyed = column-keyed R two (L .second-is);
+      few-leaves = omega (arith, L .counted, all-few g, M .nodes);
+      few1 = omega (arith, sequences-few g R one, M .nodes);
+      few2 = omega (arith, sequences-few g R two, M .nodes);
+      addable1 = addable M (table-fits R M) one;
+      addable2 = addable M (table-fits R M) two;
+    }
+
+    -- what it leaves in the slices is the game's table
+    pub table-rows : {before1 before2 : List ℕ} {beforeSum1 beforeSum2 : List ℤ} {rows : ℕ} {sequence1 sequence2 : List ℕ} {sum1 sum2 : List ℤ} → TableIn (tableBy first second count chance payoffs1 payoffs2 (sequenceCount g one) (sequenceCount g two)) before1 before2 beforeSum1 beforeSum2 rows sequence1 sequence2 sum1 sum2 → TableIn (payoffTable g) before1 before2 beforeSum1 beforeSum2 rows sequence1 sequence2 sum1 sum2
+    table-rows t = rw table-is at t

@@ -1,0 +1,37 @@
+-- The report by its numbers is the model's.
+use Prim.Native.Nat.{ℕ}
+use mathlib.Core.Path.{_≡_, refl, sym}
+use mathlib.Core.Bool.{Bool, true, false, cond}
+use mathlib.Core.List.{List, _++_, flatMap, append-assoc}
+use lib.IntN.{pos}
+use lib.Signed.{ltZ}
+use Rattle.model.specs.Game.{Game, one, two}
+use Rattle.model.specs.Plan.{PlanPair}
+use Rattle.model.specs.Earnings.{valueBase, value, againstBase}
+use Rattle.model.specs.BestResponse.{bestValue, bestResponse}
+use Rattle.model.specs.Verdict.{verdict, gain, deviates, equilibrium}
+use Rattle.model.specs.Report.{moveLine, valueLine, bestLine, gainAmount, verdictLines, report}
+use Rattle.form.specs.Values.{valuesOf}
+use Rattle.verdict.specs.Judgement.{verdictOf}
+use Rattle.text.specs.Lines.{amountLine}
+use Rattle.report.specs.Whole.{basesOf, bothLines, valuesText, strategyLines, deviationText, verdictText, reportText}
+
+module _ (g : Game) (q : PlanPair) where
+  values-are : valuesText (basesOf (g .rootWeight) (q one .denominator) (q two .denominator)) (valuesOf g q) ≡ valueLine g q one ++ valueLine g q two ++ bestLine g q one ++ bestLine g q two
+  unfolding basesOf valuesText bothLines amountLine valuesOf valueLine bestLine value bestValue valueBase againstBase
+  values-are = sym (append-assoc (valueLine g q one ++ valueLine g q two) (bestLine g q one) (bestLine g q two))
+
+  -- Moves by set whose lines are those of the best responses.
+  module _ (moves1 moves2 : List ℕ) (first : strategyLines g one moves1 ≡ flatMap moveLine (bestResponse g one (q two))) (second : strategyLines g two moves2 ≡ flatMap moveLine (bestResponse g two (q one))) where
+    verdict-is : verdictText g (valueBase g q) (verdictOf (verdict g q)) moves1 moves2 ≡ verdictLines g q (verdict g q)
+    unfolding verdict deviates verdictText deviationText amountLine verdictLines gainAmount
+    verdict-is = go (ltZ (pos 0) (gain g q one)) (ltZ (pos 0) (gain g q two))
+      where
+        go : (a b : Bool) → verdictText g (valueBase g q) (verdictOf (cond a (deviates g q one) (cond b (deviates g q two) equilibrium))) moves1 moves2 ≡ verdictLines g q (cond a (deviates g q one) (cond b (deviates g q two) equilibrium))
+        go true b = rw first
+        go false true = rw second
+        go false false = refl
+
+    pub report-is : reportText g (basesOf (g .rootWeight) (q one .denominator) (q two .denominator)) (valuesOf g q) (verdictOf (verdict g q)) moves1 moves2 ≡ report g q
+    unfolding reportText report basesOf valueBase
+    report-is = rw (values-are, verdict-is)

@@ -1,0 +1,96 @@
+-- The longest that a report can be.
+use Prim.Native.Nat.{ℕ, _+_, _*_, _≤_, _<_}
+use mathlib.Core.Path.{ap}
+use mathlib.Core.Bool.{Bool, true, false, cond}
+use mathlib.Core.List.{[], _++_, flatMap}
+use native.Mathlib.Omega.{arith}
+use lib.Dec.{T}
+use lib.ListN.{length, length-append}
+use lib.IntN.{pos}
+use lib.Signed.{ltZ}
+use Rattle.algebra.proofs.Searches.{firstTo-bound}
+use Rattle.algebra.proofs.Tests.{dec}
+use Rattle.model.specs.Game.{Game, Player, one, two, other, owns}
+use Rattle.model.specs.Plan.{PlanPair, RealizationPlan}
+use Rattle.model.specs.Earnings.{valueBase, valueCount, value, againstBase, pureEarnings}
+use Rattle.model.specs.BestResponse.{worth, bestCount, bestValue, bestMove, bestResponse}
+use Rattle.model.specs.Verdict.{verdict, gain, deviates, equilibrium}
+use Rattle.model.specs.Report.{ascii, line, playerNumber, moveLine, valueLine, bestLine, gainAmount, verdictLines, report}
+use Rattle.model.specs.Demand1.{GameRules}
+use Rattle.model.specs.Demand3.{BasesPositive}
+use Rattle.model.proofs.Budget.{Budget}
+use Rattle.text.specs.Lines.{amountLine}
+use Rattle.report.specs.Whole.{most}
+use Rattle.text.proofs.Lengths.{amount-line-length, move-line-length}
+use Rattle.report.proofs.Strategies.{joined-most, responseLine, response-own, response-other, response-lines}
+
+number-few : (p : Player) → playerNumber p < 10
+number-few one = omega arith
+number-few two = omega arith
+
+best-few : (g : Game) (p : Player) (y : RealizationPlan) (h : ℕ) → bestMove g p y h ≤ g .setMoves h
+unfolding bestMove
+best-few g p y h = firstTo-bound (g .setMoves h) _
+
+module _ (g : Game) (few : g .sets ≤ 4095) (R : GameRules g) where
+  -- a strategy: at most 4,095 lines of at most 17 bytes
+  strategy-most : (p : Player) (y : RealizationPlan) → length (flatMap moveLine (bestResponse g p y)) ≤ 17 * 4095
+  strategy-most p y = omega (arith, ap length (response-lines g p y), joined-most 17 (g .sets) (responseLine g p y) (λ h l. at-set h l (dec (owns g p h))))
+    where
+      at-set : (h : ℕ) → h < g .sets → Dec (T (owns g p h)) → length (responseLine g p y h) ≤ 17
+      at-set h l (yes o) = omega (arith, ap length (response-own g p y h o), move-line-length h (bestMove g p y h) (omega arith) (omega (arith, R .set-moves h l .1, best-few g p y h)))
+      at-set h l (no o) = omega (arith, ap length (response-other g p y h o))
+
+  module _ (q : PlanPair) (positive : BasesPositive g q) (B : Budget g q) where
+    value-most : (p : Player) → length (valueLine g q p) ≤ 33
+    unfolding valueLine value amountLine valueCount ascii
+    value-most p = amount-line-length (ascii "value ") (playerNumber p) (ascii " ") (valueCount g q p) (valueBase g q) (number-few p) (positive .values) (B .value p (g .nodes) (omega arith))
+
+    best-most : (p : Player) → length (bestLine g q p) ≤ 32
+    unfolding bestLine bestValue amountLine bestCount worth pureEarnings ascii
+    best-most p = amount-line-length (ascii "best ") (playerNumber p) (ascii " ") (bestCount g p (q (other p))) (againstBase g p (q (other p))) (number-few p) (positive .pures p (λ h. 0)) (B .worths p (g .nodes) [])
+
+    deviation-most : (p : Player) → length (verdictLines g q (deviates g q p)) ≤ 49 + 17 * 4095
+    unfolding verdictLines deviates gainAmount amountLine ascii
+    deviation-most p =
+        let y = q (other p) in
+        omega (
+          arith,
+          length-append (amountLine (ascii "deviation player ") (playerNumber p) (ascii " gain ") (gainAmount g q (gain g q p))) (flatMap moveLine (bestResponse g p y)),
+          amount-line-length (ascii "deviation player ") (playerNumber p) (ascii " gain ") (gain g q p) (valueBase g q) (number-few p) (positive .values) (B .gains p),
+          strategy-most p y,
+        )
+
+    accepted-most : length (verdictLines g q equilibrium) ≤ 49 + 17 * 4095
+    unfolding verdictLines line ascii
+    accepted-most = omega arith
+
+    verdict-most : length (verdictLines g q (verdict g q)) ≤ 49 + 17 * 4095
+    unfolding verdict
+    verdict-most = go (ltZ (pos 0) (gain g q one)) (ltZ (pos 0) (gain g q two))
+      where
+        go : (a b : Bool) → length (verdictLines g q (cond a (deviates g q one) (cond b (deviates g q two) equilibrium))) ≤ 49 + 17 * 4095
+        go true b = deviation-most one
+        go false true = deviation-most two
+        go false false = accepted-most
+
+    pub report-most : length (report g q) ≤ most
+    unfolding report
+    report-most =
+        let v1 = valueLine g q one in
+        let v2 = valueLine g q two in
+        let b1 = bestLine g q one in
+        let b2 = bestLine g q two in
+        let v = verdictLines g q (verdict g q) in
+        omega (
+          arith,
+          length-append (v1 ++ v2 ++ b1 ++ b2) v,
+          length-append (v1 ++ v2 ++ b1) b2,
+          length-append (v1 ++ v2) b1,
+          length-append v1 v2,
+          value-most one,
+          value-most two,
+          best-most one,
+          best-most two,
+          verdict-most,
+        )

@@ -1,0 +1,116 @@
+-- The lines of a player's sets: one by one as they are put, and those of the model's best response.
+use Prim.Native.Nat.{ℕ, zero, suc, _+_, _*_, _≤_, _<_}
+use mathlib.Core.Path.{_≡_, refl, sym, ap, _∙_}
+use mathlib.Core.Bool.{cond}
+use mathlib.Core.List.{List, [], _∷_, _++_, flatMap, append-nil, append-assoc}
+use native.Mathlib.Omega.{arith}
+use native.Mathlib.Decide.{ℕ-discrete}
+use native.Mathlib.Numerals.{add-one}
+use lib.Dec.{T}
+use lib.ListN.{length, length-append}
+use Rattle.algebra.specs.Bounded.{joinTo}
+use Rattle.algebra.proofs.Lists.{joinTo-suc, joinTo-cong}
+use Rattle.algebra.proofs.Tests.{dec, cond-yes, cond-no}
+use Rattle.model.specs.Game.{Game, Player, owns, playerOf}
+use Rattle.model.specs.Sequences.{Move}
+use Rattle.model.specs.Plan.{RealizationPlan}
+use Rattle.model.specs.BestResponse.{bestMove, bestAt, bestResponse}
+use Rattle.model.specs.Writing.{entry}
+use Rattle.model.specs.Report.{playerNumber, moveLine}
+use Rattle.game.specs.Answers.{over}
+use Rattle.game.proofs.Loops.{over-at}
+use Rattle.form.specs.BestMoves.{ownBestMove}
+use Rattle.text.specs.Text.{Room, Put}
+use Rattle.report.specs.Whole.{setLine, strategyLines}
+use Rattle.text.proofs.Puts.{put-none, room-then, put-then}
+
+-- lists below n and list n are part of the lists below any later bound
+joined-part : {A : Type 0} (f : ℕ → List A) (n bound : ℕ) → n < bound → length (joinTo n f ++ f n) ≤ length (joinTo bound f)
+unfolding joinTo
+joined-part f n zero l = absurd (omega arith)
+joined-part f n (suc bound) l =
+    elim (ℕ-discrete n bound) [
+      | yes e ↦ rw e (omega arith)
+      | no e ↦ omega (arith, length-append (joinTo bound f) (f bound), joined-part f n bound (omega arith))
+    ]
+
+-- lists of at most c elements
+pub joined-most : {A : Type 0} (c n : ℕ) (f : ℕ → List A) → ((i : ℕ) → i < n → length (f i) ≤ c) → length (joinTo n f) ≤ c * n
+unfolding joinTo
+joined-most c zero f h = omega arith
+joined-most c (suc n) f h = omega (arith, length-append (joinTo n f) (f n), joined-most c n f (λ i l. h i (omega arith)), h n (omega arith))
+
+-- a player's number is one more than his bit
+pub bit-number : (b : ℕ) → b < 2 → b + 1 ≡ playerNumber (playerOf b)
+bit-number zero l = refl
+bit-number (suc b) l = omega arith
+
+-- A loop that puts one text after the other.
+module _ (f : ℕ → List ℕ) {at : ℕ} {before : List ℕ} where
+  -- where it begins
+  pub joined-none : Put at (joinTo 0 f) before before at
+  unfolding joinTo
+  joined-none = put-none at before
+
+  module _ {n bound : ℕ} (l : n < bound) (r : Room at (joinTo bound f) before) where
+    next-room : Room at (joinTo n f ++ f n) before
+    next-room = record { fits = omega (arith, r .fits, joined-part f n bound l) }
+
+    module _ {mid : List ℕ} {k : ℕ} (p : Put at (joinTo n f) before mid k) where
+      -- there is room for the next text
+      pub joined-room : Room k (f n) mid
+      joined-room = room-then p (f n) next-room
+
+      -- a turn: it is put
+      pub joined-more : {after : List ℕ} {m : ℕ} → Put k (f n) mid after m → Put at (joinTo (n + 1) f) before after m
+      joined-more q = rw (add-one, joinTo-suc n f) (put-then p next-room q)
+
+-- texts of joined lists
+flatMap-append : {A B : Type 0} (f : A → List B) (k l : List A) → flatMap f (k ++ l) ≡ flatMap f k ++ flatMap f l
+unfolding flatMap
+flatMap-append f [] l = refl
+flatMap-append f (x ∷ k) l = rw (flatMap-append f k l, append-assoc (f x) (flatMap f k) (flatMap f l))
+
+pub flatMap-joinTo : {A B : Type 0} (f : A → List B) (n : ℕ) (k : ℕ → List A) → flatMap f (joinTo n k) ≡ joinTo n (λ i. flatMap f (k i))
+unfolding flatMap joinTo
+flatMap-joinTo f zero k = refl
+flatMap-joinTo f (suc n) k = flatMap-append f (joinTo n k) (k n) ∙ rw (flatMap-joinTo f n k)
+
+module _ (g : Game) (p : Player) where
+  -- the line of a set, by whose it is
+  pub line-own : (moves : List ℕ) (h : ℕ) → T (owns g p h) → setLine g p moves h ≡ moveLine (h, entry moves h)
+  unfolding setLine
+  line-own moves h o = cond-yes (owns g p h) (moveLine (h, entry moves h)) [] o
+
+  pub line-other : (moves : List ℕ) (h : ℕ) → ¬ T (owns g p h) → setLine g p moves h ≡ []
+  unfolding setLine
+  line-other moves h o = cond-no (owns g p h) (moveLine (h, entry moves h)) [] o
+
+  -- Moves by set that are p's best moves against y.
+  module _ (y : RealizationPlan) where
+    -- a set's line in the model's text
+    abbrev pub responseLine : ℕ → List ℕ
+    responseLine h = flatMap moveLine (cond (owns g p h) (bestAt g p y h) [])
+
+    pub response-own : (h : ℕ) → T (owns g p h) → responseLine h ≡ moveLine (h, bestMove g p y h)
+    unfolding flatMap bestAt
+    response-own h o = rw (cond-yes {A = List Move} (owns g p h) ((h, bestMove g p y h) ∷ []) [] o) (append-nil (moveLine (h, bestMove g p y h)))
+
+    pub response-other : (h : ℕ) → ¬ T (owns g p h) → responseLine h ≡ []
+    unfolding flatMap
+    response-other h o = rw (cond-no {A = List Move} (owns g p h) (bestAt g p y h) [] o)
+
+    pub response-lines : flatMap moveLine (bestResponse g p y) ≡ joinTo (g .sets) responseLine
+    unfolding bestResponse
+    response-lines = flatMap-joinTo moveLine (g .sets) (λ h. cond (owns g p h) (bestAt g p y h) [])
+
+    -- his sets' lines are those of the best response
+    pub strategy-lines : (before moves : List ℕ) → moves ≡ over (ownBestMove g p y) (g .sets) before → strategyLines g p moves ≡ flatMap moveLine (bestResponse g p y)
+    unfolding strategyLines ownBestMove
+    strategy-lines before moves e = joinTo-cong (g .sets) _ _ (λ h l. at-set h l (dec (owns g p h))) ∙ sym response-lines
+      where
+        at-set : (h : ℕ) → h < g .sets → Dec (T (owns g p h)) → setLine g p moves h ≡ responseLine h
+        at-set h l (yes o) =
+            let best : entry moves h ≡ bestMove g p y h = ap (λ (k : List ℕ). entry k h) e ∙ over-at 0 (ownBestMove g p y) (g .sets) before h l ∙ cond-yes (owns g p h) (bestMove g p y h) 0 o in
+            line-own moves h o ∙ ap (λ (m : ℕ). moveLine (h, m)) best ∙ sym (response-own h o)
+        at-set h l (no o) = line-other moves h o ∙ sym (response-other h o)

@@ -1,0 +1,38 @@
+-- The verdict's text by its cases, and what its amounts are counted over.
+use Prim.Native.Nat.{ℕ}
+use mathlib.Core.Path.{_≡_}
+use mathlib.Core.List.{List}
+use native.Mathlib.Omega.{arith}
+use native.Mathlib.Nat as NatL
+use borrow.Author.Tests.{eq-eqb, ne-eqb}
+use lib.IntN.{ℤ}
+use Rattle.model.specs.Game.{Game, one, two}
+use Rattle.model.specs.Report.{ascii, line}
+use Rattle.verdict.specs.declared.Verdict.{Verdict}
+use Rattle.verdict.specs.declared.Verdict.the-variants.{Equilibrium, Deviation}
+use Rattle.text.specs.Lines.{fraction}
+use Rattle.report.specs.Whole.{DenominatorsFit, BasesFit, basesOf, deviationText, verdictText}
+
+module _ (g : Game) (base : ℕ) {v : Verdict} (moves1 moves2 : List ℕ) where
+  pub text-accepted : v ≡ Equilibrium → verdictText g base v moves1 moves2 ≡ line (ascii "accepted")
+  unfolding verdictText
+  text-accepted e = rw e
+
+  pub text-first : {player : ℕ} {gain : ℤ} → v ≡ Deviation player gain → player ≡ 1 → verdictText g base v moves1 moves2 ≡ deviationText g one (fraction gain base) moves1
+  unfolding verdictText
+  text-first {player} e n = rw (e, eq-eqb player 1 n)
+
+  pub text-second : {player : ℕ} {gain : ℤ} → v ≡ Deviation player gain → ¬ (player ≡ 1) → verdictText g base v moves1 moves2 ≡ deviationText g two (fraction gain base) moves2
+  unfolding verdictText
+  text-second {player} e n = rw (e, ne-eqb player 1 n)
+
+-- a product of D0 with a denominator, and with both
+pub bases-fit : (root first second : ℕ) → DenominatorsFit root first second → BasesFit (basesOf root first second)
+unfolding basesOf
+bases-fit root first second D =
+    let both = NatL.mul-le-mul (D .first-few) (D .second-few) in
+    record {
+      values = record { some = NatL.mul-pos (D .root-some) (NatL.mul-pos (D .first-some) (D .second-some)); few = NatL.mul-le-mul (D .root-few) both };
+      best1 = record { some = NatL.mul-pos (D .root-some) (D .second-some); few = omega (arith, NatL.mul-le-mul (D .root-few) (D .second-few)) };
+      best2 = record { some = NatL.mul-pos (D .root-some) (D .first-some); few = omega (arith, NatL.mul-le-mul (D .root-few) (D .first-few)) };
+    }

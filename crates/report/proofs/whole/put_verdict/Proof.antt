@@ -1,0 +1,64 @@
+-- One text for each case of the verdict.
+use native.Mathlib.Omega.{arith}
+use borrow.Author.Needs.{needs}
+use mir.Syntax.{w64}
+use mir.Val.{SFits}
+use mir.Facts.{toZ-ofZ}
+use Rattle.model.specs.Game.{gameOf}
+use Rattle.report.proofs.Wholes.{text-accepted, text-first, text-second}
+use Rattle.report.proofs.whole.put_verdict.Statement.{statement}
+use Rattle.report.proofs.whole.put_verdict.Tie as tie
+
+put-accepted-requires : tie.Need-put-accepted-requires
+put-accepted-requires c κs =
+    let s = c .before .before .before .before .before .before .before in
+    rw (text-accepted (gameOf (s .args .game .now)) (s .args .base) (s .args .moves1 .now) (s .args .moves2 .now) (c .before .enum-told .given .1)) at (s .pre .4)
+
+returns : tie.Need-returns
+returns c =
+    let a = c .before .before .before .before .before .before .before .before .before .before .args in
+    rw (text-accepted (gameOf (a .game .now)) (a .base) (a .moves1 .now) (a .moves2 .now) (c .before .before .before .before .enum-told .given .1)) (c .before .before .put-accepted .ensures)
+
+-- what is read of the gain is what it is
+gain-fits : (c : tie.After-known-told) → SFits w64 (c .before .verdict .given .0 .1 .0)
+gain-fits c = search needs
+
+put-deviation-requires : tie.Need-put-deviation-requires
+put-deviation-requires c κs =
+    let s = c .before .before .before .before .before .before .before .before .before in
+    let text = text-first (gameOf (s .args .game .now)) (s .args .base) (s .args .moves1 .now) (s .args .moves2 .now) (c .before .before .before .verdict .given .1) (c .before .if1 .taken) in
+    rw (toZ-ofZ (gain-fits (c .before .before))) (s .pre .0, search needs, omega (arith, s .pre .1, s .pre .2), s .pre .3, rw text at (s .pre .4))
+
+returns-2 : tie.Need-returns-2
+returns-2 c =
+    let a = c .before .before .before .before .before .before .before .before .before .before .before .before .args in
+    let text = text-first (gameOf (a .game .now)) (a .base) (a .moves1 .now) (a .moves2 .now) (c .before .before .before .before .before .before .verdict .given .1) (c .before .before .before .before .if1 .taken) in
+    rw text (rw (toZ-ofZ (gain-fits (c .before .before .before .before .before))) at (c .before .before .put-deviation .ensures))
+
+put-deviation-requires-2 : tie.Need-put-deviation-requires-2
+put-deviation-requires-2 c κs =
+    let s = c .before .before .before .before .before .before .before .before .before in
+    let text = text-second (gameOf (s .args .game .now)) (s .args .base) (s .args .moves1 .now) (s .args .moves2 .now) (c .before .before .before .verdict .given .1) (c .before .if1 .left) in
+    rw (toZ-ofZ (gain-fits (c .before .before))) (s .pre .0, search needs, omega (arith, s .pre .1, s .pre .2), s .pre .3, rw text at (s .pre .4))
+
+returns-3 : tie.Need-returns-3
+returns-3 c =
+    let a = c .before .before .before .before .before .before .before .before .before .before .before .before .args in
+    let text = text-second (gameOf (a .game .now)) (a .base) (a .moves1 .now) (a .moves2 .now) (c .before .before .before .before .before .before .verdict .given .1) (c .before .before .before .before .if1 .left) in
+    rw text (rw (toZ-ofZ (gain-fits (c .before .before .before .before .before))) at (c .before .before .put-deviation2 .ensures))
+
+pub put-verdict-spec : {M : Type 1} → statement M
+put-verdict-spec =
+    tie.close
+    (tie.spec
+    (λ c. search needs)
+    (λ c. search needs)
+    put-accepted-requires
+    (λ c. search needs)
+    returns
+    put-deviation-requires
+    (λ c. search needs)
+    returns-2
+    put-deviation-requires-2
+    (λ c. search needs)
+    returns-3)

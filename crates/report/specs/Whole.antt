@@ -1,0 +1,90 @@
+-- The whole report, by the numbers that it tells.
+use Prim.Native.Nat.{ℕ, _+_, _*_, _≤_, _<_}
+use mathlib.Core.Path.{_≡_}
+use mathlib.Core.Bool.{cond}
+use mathlib.Core.List.{List, [], _++_}
+use lib.Dec.{eqb}
+use lib.ListN.{length}
+use Rattle.algebra.specs.Bounded.{joinTo}
+use Rattle.model.specs.Game.{Game, gameOf, Player, one, two, owns}
+use Rattle.model.specs.Earnings.{Fraction}
+use Rattle.model.specs.Writing.{entry}
+use Rattle.model.specs.Report.{ascii, line, playerNumber, moveLine}
+use Rattle.plan.specs.declared.PairHeader.{PairHeader}
+use Rattle.form.specs.declared.Values.{Values}
+use Rattle.verdict.specs.declared.Verdict.{Verdict}
+use Rattle.verdict.specs.declared.Verdict.the-variants.{Equilibrium, Deviation}
+use Rattle.report.specs.declared.Bases.{Bases}
+use Rattle.text.specs.Lines.{BaseFits, fraction, amountLine}
+
+-- D0, D1 and D2 of an accepted pair, for denominators of 16 bits
+pub record DenominatorsFit (root first second : ℕ) : Type 0 where
+  pub root-some : 0 < root
+  pub first-some : 0 < first
+  pub second-some : 0 < second
+  pub root-few : root ≤ 4095
+  pub first-few : first ≤ 65535
+  pub second-few : second ≤ 65535
+
+-- values over D0 × D1 × D2, best values over D0 × the other's D
+unfoldable pub basesOf : (root first second : ℕ) → Bases
+basesOf root first second = record { values = root * (first * second); best1 = root * second; best2 = root * first }
+
+pub record BasesFit (b : Bases) : Type 0 where
+  pub values : BaseFits (b .values)
+  pub best1 : BaseFits (b .best1)
+  pub best2 : BaseFits (b .best2)
+
+-- one line for player 1 and one for player 2
+unfoldable pub bothLines : (label : List ℕ) → (amount1 amount2 : Fraction) → List ℕ
+bothLines label amount1 amount2 = amountLine label 1 (ascii " ") amount1 ++ amountLine label 2 (ascii " ") amount2
+
+-- "value 1, value 2, best 1, best 2"
+unfoldable pub valuesText : Bases → Values → List ℕ
+valuesText b v =
+    bothLines (ascii "value ") (fraction (v .value1) (b .values)) (fraction (v .value2) (b .values))
+    ++ bothLines (ascii "best ") (fraction (v .best1) (b .best1)) (fraction (v .best2) (b .best2))
+
+-- the line of set h, where it is p's, with its move
+unfoldable pub setLine : Game → Player → (moves : List ℕ) → (h : ℕ) → List ℕ
+setLine g p moves h = cond (owns g p h) (moveLine (h, entry moves h)) []
+
+-- "one line per set of that player, rising"
+unfoldable pub strategyLines : Game → Player → (moves : List ℕ) → List ℕ
+strategyLines g p moves = joinTo (g .sets) (setLine g p moves)
+
+-- "the deviation with its player, its gain and one line per set of that player"
+unfoldable pub deviationText : Game → Player → (gain : Fraction) → (moves : List ℕ) → List ℕ
+deviationText g p gain moves = amountLine (ascii "deviation player ") (playerNumber p) (ascii " gain ") gain ++ strategyLines g p moves
+
+-- "then `accepted`, or the deviation": of player 1, or else of player 2
+unfoldable pub verdictText : Game → (base : ℕ) → Verdict → (moves1 moves2 : List ℕ) → List ℕ
+verdictText g base Equilibrium moves1 moves2 = line (ascii "accepted")
+verdictText g base (Deviation player gain) moves1 moves2 =
+    let first = deviationText g one (fraction gain base) moves1 in
+    let second = deviationText g two (fraction gain base) moves2 in
+    cond (eqb player 1) first second
+
+-- all of it
+unfoldable pub reportText : Game → Bases → Values → Verdict → (moves1 moves2 : List ℕ) → List ℕ
+reportText g b v verdict moves1 moves2 = valuesText b v ++ verdictText g (b .values) verdict moves1 moves2
+
+-- No report has more bytes: two lines of a value and two of a best value, the gain's, and one for each of 4,095 sets.
+abbrev pub most : ℕ
+most = 2 * 33 + 2 * 32 + 49 + 17 * 4095
+
+-- of a pair that was read from its files
+abbrev pub pairReport : (game : List ℕ) → PairHeader → Values → Verdict → (moves1 moves2 : List ℕ) → List ℕ
+pairReport game pair v verdict moves1 moves2 = reportText (gameOf game) (basesOf (pair .header .«root_weight») (pair .denominators .first) (pair .denominators .second)) v verdict moves1 moves2
+
+-- what is asked of it, with a move for every set of the game
+pub record PairReady (game : List ℕ) (pair : PairHeader) (moves1 moves2 : List ℕ) : Type 0 where
+  pub sets : pair .header .sets ≡ gameOf game .sets
+  pub long1 : pair .header .sets ≤ length moves1
+  pub long2 : pair .header .sets ≤ length moves2
+  pub denominators : DenominatorsFit (pair .header .«root_weight») (pair .denominators .first) (pair .denominators .second)
+
+-- To unfold this is to unfold all of this file: for closed computation.
+unfoldable pub opened : Unit {0}
+unfolding basesOf bothLines valuesText setLine strategyLines deviationText verdictText reportText
+opened = tt

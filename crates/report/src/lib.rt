@@ -1,0 +1,15 @@
+// The desk program's text, put into a lent buffer.
+pub mod printing;
+pub mod reports;
+pub mod strategy;
+pub mod whole;
+
+// What amounts are counted over: values over D0 × D1 × D2, each player's best value over D0 × the other's D.
+pub struct Bases {
+    pub values: u64,
+    pub best1: u64,
+    pub best2: u64,
+}
+
+// No report has more bytes, and no line of a refusal.
+pub const MOST: usize = 69794;

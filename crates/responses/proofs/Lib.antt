@@ -1,0 +1,5 @@
+pub mod Everywhere
+pub mod Greatest
+pub mod Parts
+pub mod Storing
+pub mod TableLaws

@@ -1,0 +1,4 @@
+pub mod BestMoves
+pub mod PlayerTables
+pub mod Responses
+pub mod Stored

@@ -1,0 +1,4 @@
+pub mod Chaining
+pub mod Givens
+pub mod Products
+pub mod SumLoops

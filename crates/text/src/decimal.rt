@@ -1,0 +1,39 @@
+// Numbers in base ten. `put_decimal` is the one writer of them.
+ghost use mathlib.Core.List.{[], _∷_};
+ghost use Prim.Native.Nat.{_+_, _<_};
+ghost use Rattle.model.specs.Report.{decimal, signedDecimal};
+ghost use Rattle.text.specs.Text.{Room, Put};
+use super::put_text;
+
+// Puts one digit.
+pub fn put_digit(digit: u64, out: &mut [u8], at: usize) -> usize
+    requires { ⌜ (digit < 10) × Room at ((48 + digit) ∷ []) (now out) ⌝ }
+    ensures { λ r. ⌜ Put at ((48 + digit) ∷ []) (now (out .entry)) (now (out .exit)) r ⌝ }
+{
+    out[at] = (48 + digit) as u8;
+    at + 1
+}
+
+// Puts a number: what is left without its last digit, and then that digit.
+pub fn put_decimal(n: u64, out: &mut [u8], at: usize) -> usize
+    requires { ⌜ Room at (decimal n) (now out) ⌝ }
+    ensures { λ r. ⌜ Put at (decimal n) (now (out .entry)) (now (out .exit)) r ⌝ }
+{
+    if n < 10 {
+        return put_digit(n, out, at);
+    }
+    let last = put_decimal(n / 10, out, at);
+    put_digit(n % 10, out, last)
+}
+
+// Puts a number by its sign and size.
+pub fn put_signed(negative: bool, size: u64, out: &mut [u8], at: usize) -> usize
+    requires { ⌜ Room at (signedDecimal negative size) (now out) ⌝ }
+    ensures { λ r. ⌜ Put at (signedDecimal negative size) (now (out .entry)) (now (out .exit)) r ⌝ }
+{
+    if negative {
+        let digits = put_text(b"-", out, at);
+        return put_decimal(size, out, digits);
+    }
+    put_decimal(size, out, at)
+}

@@ -1,0 +1,38 @@
+// Values and best values of a pair.
+ghost use mathlib.Core.Path.{_≡_};
+ghost use Rattle.model.specs.PlanChecks.{pairRefusal};
+ghost use Rattle.verdict.specs.Values.{valuesAnswer};
+use super::ValuesAnswer;
+use plan::PairAnswer;
+
+// The players' values and best values, with what they are counted over.
+pub fn values(game: &[u8], plan: &[u8]) -> ValuesAnswer
+    ensures { λ r. ⌜ r ≡ valuesAnswer (pairRefusal (now (game .entry)) (now (plan .entry))) (now (game .entry)) (now (plan .entry)) ⌝ }
+{
+    let mut x = [0u64; 4095];
+    let mut y = [0u64; 4095];
+    let answer = plan::pair::read(game, plan, &mut x, &mut y);
+    let PairAnswer::Fits(pair) = answer else {
+        return ValuesAnswer::Refused(plan::pair::refusal(answer));
+    };
+    let mut moves1 = [0usize; 4095];
+    let mut moves2 = [0usize; 4095];
+    let values = form::evaluate::evaluate(
+        game,
+        pair.header,
+        pair.counts,
+        &x,
+        &y,
+        &mut moves1,
+        &mut moves2,
+    );
+    ValuesAnswer::Given {
+        value1: values.value1,
+        value2: values.value2,
+        best1: values.best1,
+        best2: values.best2,
+        root_weight: pair.header.root_weight,
+        first: pair.denominators.first,
+        second: pair.denominators.second,
+    }
+}

@@ -1,0 +1,115 @@
+//! Pairs to run a program on: at and near equilibria, arbitrary ones, and damaged ones.
+
+use crate::samples::Pair;
+use crate::Refusal;
+use generator::aim::{aim_at_game, aim_at_plan};
+use generator::damage::random_damage;
+use generator::games::random_game;
+use generator::near::pairs_near;
+use generator::plans::{random_plan, random_pure_plan};
+use generator::rng::Rng;
+use generator::shape::{random_count, Shape};
+use generator::spoil::misfits;
+use generator::tables::PlanWeights;
+use reference::game::{check_game, Game};
+use reference::plan::{check_plan, Plan};
+
+/// As many in a hundred games are of up to 4,095 nodes.
+const LARGE_PERCENT: usize = 1;
+
+/// Pairs over one game: those that fit, and about as many that are damaged.
+pub fn draw(rng: &mut Rng) -> Result<Vec<Pair>, Refusal> {
+    let large = rng.percent(LARGE_PERCENT);
+    let shape = draw_shape(rng, large);
+    let game = random_game(rng, &shape).bytes()?;
+    let accepted = check_game(&game)?;
+    let plans = match large {
+        true => any_plans(rng, &accepted),
+        false => pairs_near(rng, &accepted),
+    };
+    let mut pairs = Vec::new();
+    for plan in plans {
+        let plan = plan.bytes()?;
+        pairs.push(Pair {
+            game: game.clone(),
+            plan,
+        });
+    }
+    if let Some(pair) = rng.pick(&pairs) {
+        let plan = check_plan(&accepted, &pair.plan)?;
+        let damaged = damaged(rng, pair, &plan);
+        pairs.extend(damaged);
+    }
+    Ok(pairs)
+}
+
+fn draw_shape(rng: &mut Rng, large: bool) -> Shape {
+    match rng.below(4) {
+        0 if large => Shape::deep(rng),
+        _ if large => Shape::full(rng),
+        0 => Shape::crowded(rng, 60),
+        1 => Shape::random(rng, 300, 12),
+        _ => Shape::random(rng, 60, 6),
+    }
+}
+
+fn any_plans(rng: &mut Rng, game: &Game) -> Vec<PlanWeights> {
+    let denominators = [random_count(rng), random_count(rng)];
+    vec![
+        random_plan(rng, game, denominators),
+        random_pure_plan(rng, game),
+    ]
+}
+
+/// Two pairs made for a refusal each, a plan that does not fit, and files damaged at random.
+fn damaged(rng: &mut Rng, pair: &Pair, plan: &Plan) -> Vec<Pair> {
+    let mut games = vec![random_damage(rng, &pair.game)];
+    let mut plans = vec![random_damage(rng, &pair.plan)];
+    for _ in 0..2 {
+        match rng.between(1, 16) as Refusal {
+            refusal @ 1..=13 => games.extend(aim_at_game(rng, plan.game(), refusal)),
+            refusal => plans.extend(aim_at_plan(rng, plan, refusal)),
+        }
+    }
+    let misfits = misfits(rng, plan);
+    plans.extend(rng.pick(&misfits).cloned());
+    let of_game = |game| Pair {
+        game,
+        plan: pair.plan.clone(),
+    };
+    let of_plan = |plan| Pair {
+        game: pair.game.clone(),
+        plan,
+    };
+    let games = games.into_iter().map(of_game);
+    games.chain(plans.into_iter().map(of_plan)).collect()
+}
+
+/// How often each answer was met among some pairs.
+#[derive(Debug, Default)]
+pub struct Met {
+    pub pairs: usize,
+    /// By number; 0 are the pairs that fit.
+    pub refusals: [usize; 17],
+    pub accepted: usize,
+    pub deviations: [usize; 2],
+    /// Deviations whose gain is shown as 0.
+    pub unseen_gains: usize,
+}
+
+impl Met {
+    /// Takes in what was printed for a pair.
+    pub fn count(&mut self, printed: &str) {
+        self.pairs += 1;
+        let refusal = printed.strip_prefix("refusal ").map(str::trim_end);
+        let refusal = refusal.and_then(|number| number.parse().ok()).unwrap_or(0);
+        if let Some(met) = self.refusals.get_mut::<usize>(refusal) {
+            *met += 1;
+        }
+        self.accepted += usize::from(printed.ends_with("\naccepted\n"));
+        for (player, met) in (1..).zip(&mut self.deviations) {
+            *met += usize::from(printed.contains(&format!("\ndeviation player {player} ")));
+        }
+        self.unseen_gains += usize::from(printed.contains(" gain 0.000\n"));
+    }
+}

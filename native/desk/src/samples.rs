@@ -1,0 +1,120 @@
+//! Games with plans to measure on: each kind at full size and at half of it, so that the
+//! times show what twice the game costs, and small ones by the thousand.
+
+use crate::Refusal;
+use generator::games::random_game;
+use generator::plans::random_plan;
+use generator::rng::Rng;
+use generator::shape::{random_count, Growth, Payoffs, Shape};
+
+const FULL: usize = 4_095;
+const HALF: usize = 2_047;
+
+/// As many files of each kind and size.
+const FILES: usize = 6;
+
+pub struct Pair {
+    pub game: Vec<u8>,
+    pub plan: Vec<u8>,
+}
+
+/// Pairs alike in size and kind.
+pub struct Sample {
+    pub name: String,
+    pub pairs: Vec<Pair>,
+}
+
+impl Sample {
+    fn draw(
+        rng: &mut Rng,
+        name: String,
+        count: usize,
+        shape: impl Fn(&mut Rng) -> Shape,
+    ) -> Result<Sample, Refusal> {
+        let pairs: Result<Vec<Pair>, Refusal> = (0..count)
+            .map(|_| {
+                let shape = shape(rng);
+                pair_of(rng, &shape)
+            })
+            .collect();
+        let name = format!("{count} {name}");
+        pairs.map(|pairs| Sample { name, pairs })
+    }
+}
+
+fn pair_of(rng: &mut Rng, shape: &Shape) -> Result<Pair, Refusal> {
+    let game = random_game(rng, shape).bytes()?;
+    let accepted = reference::game::check_game(&game)?;
+    let denominators = [random_count(rng), random_count(rng)];
+    let plan = random_plan(rng, &accepted, denominators).bytes()?;
+    Ok(Pair { game, plan })
+}
+
+/// Short paths and sets of many moves.
+fn wide(rng: &mut Rng) -> Shape {
+    Shape {
+        least_moves: 8,
+        most_moves: 64,
+        chance_percent: 15,
+        merge_percent: 75,
+        growth: Growth::Level,
+        ..Shape::full(rng)
+    }
+}
+
+/// Paths of 255 moves.
+fn deep(rng: &mut Rng) -> Shape {
+    Shape {
+        least_moves: 2,
+        most_moves: 3,
+        chance_percent: 5,
+        merge_percent: 50,
+        ..Shape::deep(rng)
+    }
+}
+
+/// A set for each decision, of one or two moves.
+fn many_sets(rng: &mut Rng) -> Shape {
+    Shape {
+        least_moves: 1,
+        most_moves: 2,
+        chance_percent: 0,
+        merge_percent: 0,
+        growth: Growth::Scattered,
+        ..Shape::full(rng)
+    }
+}
+
+/// A name, and how a shape of that kind is drawn.
+type Kind = (&'static str, fn(&mut Rng) -> Shape);
+
+/// Every sample; in the last one all payoffs are alike, so that every pair is accepted.
+pub fn samples() -> Result<Vec<Sample>, Refusal> {
+    let mut rng = Rng::new(2026);
+    let kinds: [Kind; 3] = [
+        ("wide games", wide),
+        ("deep games", deep),
+        ("games of many sets", many_sets),
+    ];
+    let mut samples = Vec::new();
+    for (kind, shape) in kinds {
+        for nodes in [FULL, HALF] {
+            let name = format!("{kind}, {nodes} nodes");
+            let sized = |rng: &mut Rng| Shape {
+                nodes,
+                ..shape(rng)
+            };
+            samples.push(Sample::draw(&mut rng, name, FILES, sized)?);
+        }
+    }
+    let small = |rng: &mut Rng| Shape::random(rng, 60, 6);
+    let name = "games of up to 60 nodes".to_string();
+    samples.push(Sample::draw(&mut rng, name, 1_000, small)?);
+    let alike = |rng: &mut Rng| Shape {
+        payoffs: Payoffs::Constant(-1),
+        ..many_sets(rng)
+    };
+    let name = "games of many sets and one payoff".to_string();
+    samples.push(Sample::draw(&mut rng, name, FILES, alike)?);
+    Ok(samples)
+}
