@@ -1,4 +1,3 @@
 pub mod Answers
 pub mod Numbers
 pub mod Pairs
-pub mod Tabled

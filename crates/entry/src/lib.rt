@@ -11,7 +11,6 @@ use game::Payload;
 use game::SetEntry;
 
 mod plans;
-mod table;
 
 pub use fields::FieldsAnswer;
 pub use fields::game_fields;
@@ -19,6 +18,9 @@ pub use plans::check_plan;
 pub use plans::plan_fields;
 pub use report::reports::refusal_line;
 pub use report::reports::report;
+pub use rows::Row;
+pub use rows::payoff_rows;
+pub use table::TableAnswer;
 pub use table::payoff_table;
 pub use verdict::ValuesAnswer;
 pub use verdict::VerdictAnswer;
@@ -84,12 +86,6 @@ pub enum PlanAnswer {
 // All weights of a plan stand in the lent buffer; a refusal is 1 to 16, or 18.
 pub enum WeightsAnswer {
     Given { first: u64, second: u64, count: u64 },
-    Refused(u64),
-}
-
-// The payoff table stands in the lent buffers, so many rows; a refusal is 1 to 13, or 18.
-pub enum TableAnswer {
-    Given { rows: u64 },
     Refused(u64),
 }
 

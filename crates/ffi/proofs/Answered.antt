@@ -16,8 +16,8 @@ use Rattle.fields.specs.declared.FieldsAnswer.{FieldsAnswer}
 use Rattle.fields.specs.declared.FieldsAnswer.the-variants as Fields
 use Rattle.entry.specs.declared.GameAnswer.{GameAnswer}
 use Rattle.entry.specs.declared.GameAnswer.the-variants as Game
-use Rattle.entry.specs.declared.TableAnswer.{TableAnswer}
-use Rattle.entry.specs.declared.TableAnswer.the-variants as Table
+use Rattle.table.specs.declared.TableAnswer.{TableAnswer}
+use Rattle.table.specs.declared.TableAnswer.the-variants as Table
 use Rattle.verdict.specs.declared.ValuesAnswer.{ValuesAnswer}
 use Rattle.verdict.specs.declared.ValuesAnswer.the-variants as Values
 use Rattle.entry.specs.declared.WeightsAnswer.{WeightsAnswer}
@@ -27,7 +27,7 @@ use Rattle.writers.specs.declared.WriteAnswer.the-variants as Write
 use Rattle.entry.specs.Answers.{gameAnswer}
 use Rattle.fields.specs.GameFields.{fieldsAnswer}
 use Rattle.entry.specs.Plans.{weightsAnswer}
-use Rattle.entry.specs.Tables.{Columns, columnsAfter, tableAnswer}
+use Rattle.table.specs.Tables.{Columns, columnsAfter, tableAnswer}
 use Rattle.verdict.specs.Values.{valuesAnswer}
 use Rattle.writers.specs.Answers.{writeAnswer}
 use Rattle.ffi.specs.Lent.{numberAfter}

@@ -16,7 +16,7 @@ ghost use Rattle.model.specs.Earnings.{valueBase, valueCount};
 ghost use Rattle.model.specs.BestResponse.{bestCount};
 ghost use Rattle.game.specs.Columns.{fieldLists};
 ghost use Rattle.fields.specs.GameFields.{fieldsRefusal, buffersAfter};
-ghost use Rattle.entry.specs.Tables.{columns, tableRefusal, columnsAfter};
+ghost use Rattle.table.specs.Tables.{columns, tableRefusal, columnsAfter};
 ghost use Rattle.verdict.specs.Verdicts.{verdictRefusal, verdictOn, shownIn};
 ghost use Rattle.model.specs.Report.{reportOf, refusalLine};
 ghost use Rattle.report.specs.Reports.{reportRefusal, refusalLineRefusal};

@@ -1,5 +1,5 @@
 -- How many rows goes to the reference; a refusal leaves it as it was.
-use Rattle.entry.specs.Tables.{columns, tableRefusal}
+use Rattle.table.specs.Tables.{columns, tableRefusal}
 use Rattle.ffi.proofs.Answered.{table-given, table-refused}
 use Rattle.ffi.proofs.desk_payoff_table.Statement.{statement}
 use Rattle.ffi.proofs.desk_payoff_table.Tie as tie

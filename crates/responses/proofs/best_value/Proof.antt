@@ -39,7 +39,7 @@ best-value-spec =
     sums-requires
     worths-requires
     best-moves-requires
-    (λ c. search needs)
-    (λ c. search needs)
-    (λ c. search needs)
+    (λ c. c .before .before .before .before .before .before .before .before .before .before .sums .kept .1 .1 .1 .1 .1 .1 .1 .0)
+    (λ c. c .before .before .before .before .before .before .worths .kept .1 .1 .1 .1 .1 .1 .1 .0)
+    (λ c. c .before .before .best-moves .kept .1 .1 .1 .1 .1 .1 .0)
     returns)

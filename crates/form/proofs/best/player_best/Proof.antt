@@ -35,5 +35,5 @@ player-best-spec =
     (λ c. search needs)
     (λ c. search needs)
     prepared-best-requires
-    (λ c. search needs)
+    (λ c. c .before .before .prepared-best .kept .1 .1 .1 .1 .1 .1 .1 .1 .1 .1 .1 .1 .1 .1 .1 .1 .0)
     returns)

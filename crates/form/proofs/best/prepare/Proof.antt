@@ -38,7 +38,7 @@ prepare-spec =
     (tie.spec
     own-leads-requires
     chain-requires
-    (λ c. search needs)
-    (λ c. search needs)
-    (λ c. search needs)
+    (λ c. c .before .before .before .before .before .before .before .before .before .before .own-leads .kept .1 .1 .1 .1 .1 .0)
+    (λ c. c .before .before .before .before .chain .kept .1 .1 .1 .0)
+    (λ c. c .before .before .before .before .chain .kept .1 .1 .1 .1 .0)
     returns)

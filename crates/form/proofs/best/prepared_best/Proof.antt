@@ -41,5 +41,5 @@ prepared-best-spec =
     (λ c. search needs)
     (λ c. search needs)
     best-value-requires
-    (λ c. search needs)
+    (λ c. c .before .before .before .before .best-value .kept .1 .1 .1 .1 .1 .1 .1 .1 .1 .1 .1 .1 .1 .1 .1 .1 .1 .0)
     returns)

@@ -26,6 +26,6 @@ evaluate-spec =
     (λ c. search needs)
     (λ c. search needs)
     with-sets-requires
-    (λ c. search needs)
-    (λ c. search needs)
+    (λ c. c .before .before .before .before .with-sets .kept .1 .1 .1 .1 .1 .1 .1 .1 .0)
+    (λ c. c .before .before .before .before .with-sets .kept .1 .1 .1 .1 .1 .1 .1 .1 .1 .0)
     (λ c. c .before .before .before .before .with-sets .ensures))

@@ -30,6 +30,6 @@ with-leaves-spec =
     (λ c. search needs)
     (λ c. search needs)
     of-gathered-requires
-    (λ c. search needs)
-    (λ c. search needs)
+    (λ c. c .before .before .before .before .of-gathered .kept .1 .1 .1 .1 .1 .1 .1 .1 .1 .1 .1 .1 .1 .1 .1 .1 .0)
+    (λ c. c .before .before .before .before .of-gathered .kept .1 .1 .1 .1 .1 .1 .1 .1 .1 .1 .1 .1 .1 .1 .1 .1 .1 .0)
     (λ c. c .before .before .before .before .of-gathered .ensures))

@@ -47,7 +47,7 @@ own-numbers-spec =
     first-sequences-requires
     own-numbers-requires
     own-numbers-requires-2
-    (λ c. search needs)
-    (λ c. search needs)
-    (λ c. search needs)
+    (λ c. c .before .before .before .before .before .before .before .before .before .before .before .before .first-sequences .kept .1 .1 .0)
+    (λ c. c .before .before .before .before .before .before .before .own-numbers .kept .1 .1 .1 .1 .1 .0)
+    (λ c. c .before .before .own-numbers2 .kept .1 .1 .1 .1 .1 .0)
     returns)

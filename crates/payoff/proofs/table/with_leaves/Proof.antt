@@ -17,9 +17,7 @@ rows-requires c κs =
     let s = c .before .before .before .before .before .before .before .before .before .before .before .before .before .before .before .before .before .before .before .before .before .before .before .before .before in
     let q = s .pre in
     let game = s .args .game .now in
-    let t = leaves-tabular (gameOf game) (c .before .before .before .before .before .before .before .before .before .before .before .before .before .before .gather .ensures) (q .2) (q .3) (q .1) (game-limits game) in
-    let few = t .few-leaves in
-    (t, omega (arith, few, q .6), omega (arith, few, q .7), omega (arith, few, q .8), omega (arith, few, q .9))
+    (leaves-tabular (gameOf game) (c .before .before .before .before .before .before .before .before .before .before .before .before .before .before .gather .ensures) (q .2) (q .3) (q .1) (game-limits game), q .6, q .7, q .8, q .9)
 
 returns : tie.Need-returns
 returns c =
@@ -42,8 +40,8 @@ with-leaves-spec =
     (λ c. search needs)
     (λ c. search needs)
     rows-requires
-    (λ c. search needs)
-    (λ c. search needs)
-    (λ c. search needs)
-    (λ c. search needs)
+    (λ c. c .before .before .before .before .before .before .rows .kept .1 .1 .1 .1 .1 .1 .1 .1 .0)
+    (λ c. c .before .before .before .before .before .before .rows .kept .1 .1 .1 .1 .1 .1 .1 .1 .1 .0)
+    (λ c. c .before .before .before .before .before .before .rows .kept .1 .1 .1 .1 .1 .1 .1 .1 .1 .1 .0)
+    (λ c. c .before .before .before .before .before .before .rows .kept .1 .1 .1 .1 .1 .1 .1 .1 .1 .1 .1 .0)
     returns)

@@ -3,10 +3,10 @@ use native.Mathlib.Omega.{arith}
 use borrow.Author.Needs.{needs}
 use Rattle.model.proofs.Demand1.{game-rules}
 use Rattle.game.proofs.Outcomes.{opened, sent}
-use Rattle.entry.specs.Tables.{columns}
-use Rattle.entry.proofs.Tabled.{table-long, file-refused, no-room, has-room, all-given}
-use Rattle.entry.proofs.table.payoff_table.Statement.{statement}
-use Rattle.entry.proofs.table.payoff_table.Tie as tie
+use Rattle.table.specs.Tables.{columns}
+use Rattle.table.proofs.Tabled.{table-long, file-refused, no-room, has-room, all-given}
+use Rattle.table.proofs.payoff_table.Statement.{statement}
+use Rattle.table.proofs.payoff_table.Tie as tie
 
 refused : tie.Need-returns
 refused c =

@@ -1,7 +1,7 @@
 -- Each call copies its own column and leaves the others.
 use borrow.Author.Needs.{needs}
-use Rattle.entry.proofs.table.copy_rows.Statement.{statement}
-use Rattle.entry.proofs.table.copy_rows.Tie as tie
+use Rattle.table.proofs.copy_rows.Statement.{statement}
+use Rattle.table.proofs.copy_rows.Tie as tie
 
 all-copied : tie.Need-returns
 all-copied c =

@@ -9,8 +9,8 @@ use Rattle.model.specs.Table.{Row, payoffTable}
 use Rattle.model.specs.Writing.{entry, entryZ}
 use Rattle.model.specs.Calls.{afterCall, tableChecks}
 use Rattle.game.specs.Answers.{over}
-use Rattle.entry.specs.declared.TableAnswer.{TableAnswer}
-use Rattle.entry.specs.declared.TableAnswer.the-variants.{Given, Refused}
+use Rattle.table.specs.declared.TableAnswer.{TableAnswer}
+use Rattle.table.specs.declared.TableAnswer.the-variants.{Given, Refused}
 
 -- four lists, one a column
 pub record Columns : Type 0 where

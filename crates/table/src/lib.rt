@@ -6,8 +6,13 @@ ghost use lib.ListN.{length};
 ghost use Rattle.model.specs.Writing.{entry, entryZ};
 ghost use Rattle.model.specs.Calls.{longEnough};
 ghost use Rattle.game.specs.Answers.{over};
-ghost use Rattle.entry.specs.Tables.{columns, copied, Copyable, tableRefusal, tableAnswer, columnsAfter};
-use super::TableAnswer;
+ghost use Rattle.table.specs.Tables.{columns, copied, Copyable, tableRefusal, tableAnswer, columnsAfter};
+
+// The payoff table stands in the lent buffers, so many rows; a refusal is 1 to 13, or 18.
+pub enum TableAnswer {
+    Given { rows: u64 },
+    Refused(u64),
+}
 
 // Copies the first `n` numbers.
 fn copy(from: &[u64], n: usize, to: &mut [u64])

@@ -9,8 +9,8 @@ use mir.Facts.{toZ-ofZ}
 use borrow.Author.Needs.{needs, sfits-of}
 use Rattle.model.specs.Writing.{entryZ}
 use Rattle.game.proofs.Fillings.{Filling, filling-none, filling-more, filling-long, filling-all}
-use Rattle.entry.proofs.table.copy_sums.Statement.{statement}
-use Rattle.entry.proofs.table.copy_sums.Tie as tie
+use Rattle.table.proofs.copy_sums.Statement.{statement}
+use Rattle.table.proofs.copy_sums.Tie as tie
 
 abbrev Inv-loop : tie.InvT-loop
 Inv-loop from n to₀ i₀ to i = Filling (entryZ from) n to₀ i to

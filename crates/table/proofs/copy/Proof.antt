@@ -5,8 +5,8 @@ use native.Mathlib.Omega.{arith}
 use lib.ListN.{length}
 use Rattle.model.specs.Writing.{entry}
 use Rattle.game.proofs.Fillings.{Filling, filling-none, filling-more, filling-long, filling-all}
-use Rattle.entry.proofs.table.copy.Statement.{statement}
-use Rattle.entry.proofs.table.copy.Tie as tie
+use Rattle.table.proofs.copy.Statement.{statement}
+use Rattle.table.proofs.copy.Tie as tie
 
 abbrev Inv-loop : tie.InvT-loop
 Inv-loop from n to₀ i₀ to i = Filling (entry from) n to₀ i to

@@ -16,9 +16,9 @@ use Rattle.model.specs.Calls.{longEnough, afterCall, withRoom, tableChecks}
 use Rattle.game.specs.Answers.{over}
 use Rattle.game.proofs.Outcomes.{Sent, refuses}
 use Rattle.payoff.specs.Table.{TableIn}
-use Rattle.entry.specs.declared.TableAnswer.{TableAnswer}
-use Rattle.entry.specs.declared.TableAnswer.the-variants.{Given, Refused}
-use Rattle.entry.specs.Tables.{Columns, columns, columnsOf, columnRooms, tableRefusal, columnsAfter, tableAnswer, Copyable, copied}
+use Rattle.table.specs.declared.TableAnswer.{TableAnswer}
+use Rattle.table.specs.declared.TableAnswer.the-variants.{Given, Refused}
+use Rattle.table.specs.Tables.{Columns, columns, columnsOf, columnRooms, tableRefusal, columnsAfter, tableAnswer, Copyable, copied}
 use Rattle.calls.proofs.Rooms.{split, over-after}
 use Rattle.calls.proofs.Refusals.{game-first, game-last, game-none}
 

@@ -1,7 +1,7 @@
 -- Four tests, the last buffer's first.
 use borrow.Author.Needs.{needs}
-use Rattle.entry.proofs.table.has_room.Statement.{statement}
-use Rattle.entry.proofs.table.has_room.Tie as tie
+use Rattle.table.proofs.has_room.Statement.{statement}
+use Rattle.table.proofs.has_room.Tie as tie
 
 all-tested : tie.Need-returns
 all-tested c =
