@@ -5,7 +5,7 @@ use mathlib.Core.List.{List, [], _∷_, _++_, append-nil, append-assoc}
 use native.Mathlib.Omega.{arith}
 use native.Mathlib.Nat as NatL
 use native.Mathlib.Numerals.{add-one}
-use lib.ListN.{length, take, drop, set, length-append, length-drop, take-append-drop}
+use lib.ListN.{length, getD, take, drop, set, length-append, length-drop, take-append-drop, List·getD-append}
 use lib.Seq.{length-take-le, take-at, drop-append-add, drop-drop, append-snoc, set-split}
 use Rattle.algebra.specs.Bounded.{joinTo, listTo}
 use Rattle.algebra.specs.Arrays.{placed}
@@ -33,6 +33,10 @@ module _ {A : Type 0} where
   unfolding placed
   placed-first l out = let e : 0 + length l ≡ length l = omega arith in ap (λ (k : ℕ). l ++ drop k out) e
 
+  -- an entry that is given anew, from the first on
+  pub placed-at : (d : A) (l out : List A) (i : ℕ) → i < length l → getD (placed 0 l out) i d ≡ getD l i d
+  placed-at d l out i v = ap (λ (k : List A). getD k i d) (placed-first l out) ∙ List·getD-append l _ d i v
+
   -- two parts, the second from where the first ends
   pub placed-twice : (at : ℕ) (a b out : List A) → at ≤ length out → placed (at + length a) b (placed at a out) ≡ placed at (a ++ b) out
   unfolding placed
@@ -41,13 +45,6 @@ module _ {A : Type 0} where
       let size = length-front at a out h in
       let past : drop (at + length a + length b) (take at out ++ a ++ rest) ≡ drop (at + length (a ++ b)) out = rw (← size, drop-append-add, size, drop-drop, length-append, ← NatL.add-assoc) in
       rw (take-at (take at out ++ a) rest (at + length a) size, past, append-assoc (take at out) a b)
-
-  -- what is already written, and a part at its end
-  pub placed-end : (p l out : List A) → length p ≤ length out → placed (length p) l (p ++ drop (length p) out) ≡ (p ++ l) ++ drop (length (p ++ l)) out
-  placed-end p l out h =
-      let e : 0 + length p ≡ length p = omega arith in
-      let twice : placed (length p) l (placed 0 p out) ≡ placed 0 (p ++ l) out = rw e at (placed-twice 0 p l out (omega arith)) in
-      rw (placed-first p out, placed-first (p ++ l) out) at twice
 
   -- one entry
   placed-one : (at : ℕ) (x : A) (out : List A) → at < length out → set out at x ≡ placed at (x ∷ []) out

@@ -5,8 +5,8 @@ use mathlib.Core.Bool.{Bool, true, false, not, _&&_, cond}
 use native.Mathlib.Omega.{arith}
 use native.Mathlib.Decide.{ℕ-discrete, decLt}
 use lib.Dec.{T, eqb, eqb→eq, eqb-refl}
-use Rattle.algebra.specs.Bounded.{countTo, countWhere}
-use Rattle.algebra.proofs.Tests.{cond-yes, cond-no, cond-same}
+use Rattle.algebra.specs.Bounded.{countTo}
+use Rattle.algebra.proofs.Tests.{cond-yes, cond-no}
 
 -- x where the test passes, else 0
 abbrev pub only : Bool → ℕ → ℕ
@@ -26,15 +26,6 @@ only-le false x y h = omega arith
 pub only-most : (b : Bool) (x : ℕ) → only b x ≤ x
 only-most true x = omega arith
 only-most false x = omega arith
-
--- of 0, 0
-pub only-zero : (b : Bool) → only b 0 ≡ 0
-only-zero b = cond-same b 0
-
--- two numbers under one test
-pub only-plus : (b : Bool) (x y : ℕ) → only b x + only b y ≡ only b (x + y)
-only-plus true x y = refl
-only-plus false x y = refl
 
 -- a multiple
 pub only-scale : (b : Bool) (k x : ℕ) → k * only b x ≡ only b (k * x)
@@ -114,12 +105,6 @@ count-less (suc n) k f l =
       | no e ↦ omega (arith, count-less n k f (omega arith), count-suc n f)
     ]
 
--- the first term apart
-pub count-first : (n : ℕ) (f : ℕ → ℕ) → countTo (suc n) f ≡ f 0 + countTo n (λ i. f (suc i))
-unfolding countTo
-count-first zero f = omega arith
-count-first (suc n) f = omega (arith, count-first n f)
-
 -- one term, where the others are 0
 pub count-one : (n : ℕ) (f : ℕ → ℕ) (k : ℕ) → k < n → ((i : ℕ) → i < n → ¬ (i ≡ k) → f i ≡ 0) → countTo n f ≡ f k
 count-one zero f k l z = absurd (omega arith)
@@ -170,8 +155,3 @@ pub count-split : (n : ℕ) (t : ℕ → Bool) (f : ℕ → ℕ) → countTo n (
 count-split n t f =
     count-plus n (λ i. only (t i) (f i)) (λ i. only (not (t i)) (f i))
     ∙ count-cong n (λ i. only (t i) (f i) + only (not (t i)) (f i)) f (λ i l. only-both (t i) (f i))
-
--- a sum over the numbers that pass
-pub where-is : (n : ℕ) (t : ℕ → Bool) (f : ℕ → ℕ) → countWhere n t f ≡ countTo n (λ i. only (t i) (f i))
-unfolding countWhere
-where-is n t f = refl

@@ -6,13 +6,12 @@ use mathlib.Core.List.{List, [], _∷_, _++_, map, map-append}
 use native.Mathlib.Omega.{arith}
 use native.Mathlib.Nat as NatL
 use native.Mathlib.Numerals.{add-one}
-use native.Mathlib.Decide.{ℕ-discrete}
 use lib.ListN.{length, set, length-append, length-map}
 use lib.Dec.{T}
 use Rattle.algebra.specs.Arrays.{placed}
 use Rattle.algebra.specs.Bounded.{joinTo}
 use Rattle.algebra.proofs.Arrays.{length-placed, placed-none, placed-twice, placed-more}
-use Rattle.algebra.proofs.Lists.{joinTo-suc}
+use Rattle.algebra.proofs.Lists.{joinTo-suc, joinTo-front}
 use Rattle.algebra.proofs.Tests.{cond-yes, cond-no}
 
 module _ (test : ℕ → Bool) where
@@ -51,13 +50,9 @@ module _ (test : ℕ → Bool) where
 
   -- and what is gathered up to n is part of what is gathered below any later bound
   pub gathered-part : (n bound : ℕ) → n < bound → length (gatheredBelow n) + length (gatheredAt n) ≤ length (gatheredBelow bound)
-  unfolding joinTo
-  gathered-part n zero l = absurd (omega arith)
-  gathered-part n (suc bound) l =
-      elim (ℕ-discrete n bound) [
-        | yes e ↦ rw e (omega (arith, length-append (gatheredBelow bound) (gatheredAt bound)))
-        | no e ↦ omega (arith, length-append (gatheredBelow bound) (gatheredAt bound), gathered-part n bound (omega arith))
-      ]
+  gathered-part n bound l =
+      let f = joinTo-front bound (suc n) gatheredAt l in
+      omega (arith, ap length (f .1), ap length (joinTo-suc n gatheredAt), length-append (gatheredBelow n) (gatheredAt n), length-append (joinTo (suc n) gatheredAt) (f .0))
 
   -- the count, where the loop begins, a turn later, and at its end
   pub count-none : 0 ≡ length (gatheredBelow 0)

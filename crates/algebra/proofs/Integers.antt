@@ -115,10 +115,6 @@ pub +ℤ-mono : {x y u v : ℤ} → x ≤ℤ y → u ≤ℤ v → (x +ℤ u) ≤
 pub nonneg-sub : (x y : ℤ) → x ≤ℤ y → pos 0 ≤ℤ (y -ℤ x)
 nonneg-sub x y h = to-le (pos 0) (y -ℤ x) (omega (arith, le-to x y h, sub-is y x))
 
--- a difference that is not below 0 is from something larger
-pub sub-nonneg : (x y : ℤ) → pos 0 ≤ℤ (y -ℤ x) → x ≤ℤ y
-sub-nonneg x y h = to-le x y (omega (arith, le-to (pos 0) (y -ℤ x) h, sub-is y x))
-
 -- the inner two of four summands change places
 pub exchange : (a b c d : ℤ) → a +ℤ b +ℤ (c +ℤ d) ≡ a +ℤ c +ℤ (b +ℤ d)
 exchange a b c d =

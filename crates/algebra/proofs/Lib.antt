@@ -5,5 +5,7 @@ pub mod Counts
 pub mod Sums
 pub mod Ranges
 pub mod Lists
+pub mod Entries
 pub mod Arrays
+pub mod Fillings
 pub mod Gathering

@@ -6,7 +6,7 @@ use native.Mathlib.Omega.{arith}
 use lib.IntN.{ℤ, pos, negsuc, negℤ, _+ℤ_, _-ℤ_, _*ℤ_, natAbs}
 use mir.Syntax.{Width}
 use mir.Val.{SFits, hbits}
-use Rattle.algebra.specs.Bounded.{sumTo, sumWhere, countTo, countWhere, maxUpTo}
+use Rattle.algebra.specs.Bounded.{sumTo, sumWhere, countTo, maxUpTo}
 use Rattle.algebra.proofs.Integers.{up, down, add-is}
 use Rattle.algebra.proofs.Searches.{maxUpTo-met}
 use Rattle.algebra.proofs.Counts.{only, count-cong, count-term}
@@ -53,8 +53,8 @@ abs-only true z = refl
 abs-only false z = refl
 
 -- the size of a sum over the numbers that pass
-pub abs-where : (n : ℕ) (t : ℕ → Bool) (f : ℕ → ℤ) → natAbs (sumWhere n t f) ≤ countWhere n t (λ i. natAbs (f i))
-unfolding sumWhere countWhere
+pub abs-where : (n : ℕ) (t : ℕ → Bool) (f : ℕ → ℤ) → natAbs (sumWhere n t f) ≤ countTo n (λ i. only (t i) (natAbs (f i)))
+unfolding sumWhere
 abs-where n t f =
     omega (arith, abs-sum n (λ i. onlyZ (t i) (f i)), count-cong n (λ i. natAbs (onlyZ (t i) (f i))) (λ i. only (t i) (natAbs (f i))) (λ i l. abs-only (t i) (f i)))
 

@@ -1,15 +1,16 @@
 -- Tests of all numbers, searches, and the greatest of integers.
-use Prim.Native.Nat.{ℕ, zero, suc, _≤_, _<_}
+use Prim.Native.Nat.{ℕ, zero, suc, _+_, _≤_, _<_}
 use mathlib.Core.Path.{_≡_, refl, sym, ap, _∙_, subst}
 use mathlib.Core.Bool.{Bool, true, false, not, _||_, cond}
 use native.Mathlib.Omega.{arith}
+use native.Mathlib.Numerals.{add-one}
 use native.Mathlib.Decide.{ℕ-discrete, decLe}
-use lib.Dec.{T}
+use lib.Dec.{T, ltb, ltb→lt, lt→ltb}
 use mir.Facts.{and-yes, yes-and}
 use lib.IntN.{ℤ}
 use lib.Signed.{_≤ℤ_, ltZ, ltZ-yes, ltZ-no, ≤ℤ-refl}
 use Rattle.algebra.specs.Bounded.{allTo, anyTo, firstTo, larger, maxUpTo}
-use Rattle.algebra.proofs.Tests.{cond-no, or-left, or-right}
+use Rattle.algebra.proofs.Tests.{dec, cond-no, bool-same, or-left, or-right, false→not, not→false}
 use Rattle.algebra.proofs.Integers.{≤ℤ-trans, <ℤ→≤ℤ}
 
 -- where all pass, each does
@@ -35,6 +36,20 @@ unfolding allTo
 allTo-cong zero p q e = refl
 allTo-cong (suc n) p q e = rw (allTo-cong n p q (λ i l. e i (omega arith)), e n (omega arith))
 
+-- a test of nothing
+pub allTo-none : (p : ℕ → Bool) → allTo 0 p ≡ true
+unfolding allTo
+allTo-none p = refl
+
+-- one number more
+pub allTo-more : (p : ℕ → Bool) (n : ℕ) → allTo n p ≡ true → p n ≡ true → allTo (n + 1) p ≡ true
+unfolding allTo
+allTo-more p n e f = rw (add-one, e, f)
+
+-- a number that fails
+pub allTo-stop : (p : ℕ → Bool) (n i : ℕ) → i < n → p i ≡ false → allTo n p ≡ false
+allTo-stop p n i l e = not→false (allTo n p) (λ t. false→not (p i) e (allTo-at n p t i l))
+
 -- where some number passes, one is found
 pub anyTo-find : (n : ℕ) (p : ℕ → Bool) → T (anyTo n p) → (i : ℕ) × (i < n) × T (p i)
 unfolding anyTo
@@ -54,6 +69,12 @@ anyTo-make (suc n) p i l t =
       | yes e ↦ or-right (anyTo n p) (p n) (subst (λ (k : ℕ). T (p k)) e t)
       | no e ↦ or-left (anyTo n p) (p n) (anyTo-make n p i (omega arith) t)
     ]
+
+-- equal tests, of some number
+pub anyTo-cong : (n : ℕ) (p q : ℕ → Bool) → ((i : ℕ) → i < n → p i ≡ q i) → anyTo n p ≡ anyTo n q
+unfolding anyTo
+anyTo-cong zero p q e = refl
+anyTo-cong (suc n) p q e = rw (anyTo-cong n p q (λ i l. e i (omega arith)), e n (omega arith))
 
 -- the first number that passes is at most n
 pub firstTo-bound : (n : ℕ) (p : ℕ → Bool) → firstTo n p ≤ n
@@ -106,6 +127,21 @@ pub firstTo-none : (n : ℕ) (p : ℕ → Bool) → ((i : ℕ) → i < n → ¬ 
 unfolding firstTo
 firstTo-none zero p h = refl
 firstTo-none (suc n) p h = cond-no (p 0) 0 (suc (firstTo n (λ i. p (suc i)))) (h 0 (omega arith)) ∙ ap suc (firstTo-none n (λ i. p (suc i)) (λ i l. h (suc i) (omega arith)))
+
+-- a first number below the bound passes
+pub firstTo-holds : (n : ℕ) (p : ℕ → Bool) → firstTo n p < n → T (p (firstTo n p))
+firstTo-holds n p l =
+    elim (dec (anyTo n p)) [
+      | yes a ↦ let r = anyTo-find n p a in firstTo-found n p (r .0) (r .1) (r .2) .0
+      | no a ↦ absurd (omega (arith, firstTo-none n p (λ i v t. a (anyTo-make n p i v t))))
+    ]
+
+-- so the first is below the bound where some number passes
+pub firstTo-below : (n : ℕ) (p : ℕ → Bool) → ltb (firstTo n p) n ≡ anyTo n p
+firstTo-below n p =
+    bool-same (ltb (firstTo n p) n) (anyTo n p)
+    (λ t. let l = ltb→lt (firstTo n p) n t in anyTo-make n p (firstTo n p) l (firstTo-holds n p l))
+    (λ t. let r = anyTo-find n p t in lt→ltb (firstTo n p) n (firstTo-found n p (r .0) (r .1) (r .2) .1))
 
 -- equal tests find the same number
 pub firstTo-cong : (n : ℕ) (p q : ℕ → Bool) → ((i : ℕ) → i < n → p i ≡ q i) → firstTo n p ≡ firstTo n q

@@ -5,7 +5,7 @@ use mathlib.Core.Bool.{Bool, true, false, _&&_, cond}
 use native.Mathlib.Omega.{arith}
 use native.Mathlib.Decide.{ℕ-discrete}
 use lib.Dec.{T, eqb, eqb→eq, eqb-refl}
-use lib.IntN.{ℤ, pos, negℤ, _+ℤ_, _-ℤ_, _*ℤ_, +ℤ-idl, +ℤ-idr, negℤ-+ℤ, zero-*ℤ, *ℤ-zero}
+use lib.IntN.{ℤ, pos, _+ℤ_, _*ℤ_, +ℤ-idl, +ℤ-idr, zero-*ℤ, *ℤ-zero}
 use lib.Signed.{_≤ℤ_, ≤ℤ-refl}
 use Rattle.algebra.specs.Bounded.{sumTo, sumWhere, countTo}
 use Rattle.algebra.proofs.Tests.{cond-yes, cond-no, cond-same}
@@ -73,15 +73,6 @@ unfolding sumTo
 sum-plus zero f h = refl
 sum-plus (suc n) f h = exchange (sumTo n f) (f n) (sumTo n h) (h n) ∙ ap (λ (z : ℤ). z +ℤ (f n +ℤ h n)) (sum-plus n f h)
 
--- a sum of differences
-pub sum-sub : (n : ℕ) (f h : ℕ → ℤ) → sumTo n (λ i. f i -ℤ h i) ≡ sumTo n f -ℤ sumTo n h
-unfolding sumTo
-sum-sub zero f h = refl
-sum-sub (suc n) f h =
-    ap (λ (z : ℤ). z +ℤ (f n -ℤ h n)) (sum-sub n f h)
-    ∙ exchange (sumTo n f) (negℤ (sumTo n h)) (f n) (negℤ (h n))
-    ∙ ap (λ (z : ℤ). sumTo n f +ℤ f n +ℤ z) (sym (negℤ-+ℤ (sumTo n h) (h n)))
-
 -- a multiple of a sum
 pub sum-scale : (n w : ℕ) (f : ℕ → ℤ) → pos w *ℤ sumTo n f ≡ sumTo n (λ i. pos w *ℤ f i)
 unfolding sumTo
@@ -93,12 +84,6 @@ pub sum-weights : (n : ℕ) (x : ℕ → ℕ) (z : ℤ) → sumTo n (λ m. pos (
 unfolding sumTo countTo
 sum-weights zero x z = sym (zero-*ℤ z)
 sum-weights (suc n) x z = ap (λ (y : ℤ). y +ℤ pos (x n) *ℤ z) (sum-weights n x z) ∙ sym (scale-plus (countTo n x) (x n) z)
-
--- a sum of whole numbers
-pub sum-pos : (n : ℕ) (f : ℕ → ℕ) → sumTo n (λ i. pos (f i)) ≡ pos (countTo n f)
-unfolding sumTo countTo
-sum-pos zero f = refl
-sum-pos (suc n) f = rw (sum-pos n f)
 
 -- a sum of sums, the other way round
 pub sum-swap : (n k : ℕ) (f : ℕ → ℕ → ℤ) → sumTo n (λ i. sumTo k (λ j. f i j)) ≡ sumTo k (λ j. sumTo n (λ i. f i j))
@@ -121,12 +106,6 @@ pub sum-pick : (n a : ℕ) (f : ℕ → ℤ) → a < n → sumTo n (λ i. onlyZ 
 sum-pick n a f l =
     sum-one n (λ i. onlyZ (eqb a i) (f i)) a l (λ i v d. cond-no (eqb a i) (f i) (pos 0) (λ t. d (sym (eqb→eq a i t))))
     ∙ cond-yes (eqb a a) (f a) (pos 0) (eqb-refl a)
-
--- a sum regrouped by a key
-pub sum-key : (n K : ℕ) (key : ℕ → ℕ) (f : ℕ → ℤ) → ((i : ℕ) → i < n → key i < K) → sumTo n f ≡ sumTo K (λ k. sumTo n (λ i. onlyZ (eqb (key i) k) (f i)))
-sum-key n K key f h =
-    sum-cong n f (λ i. sumTo K (λ k. onlyZ (eqb (key i) k) (f i))) (λ i l. sym (sum-pick K (key i) (λ k. f i) (h i l)))
-    ∙ sum-swap n K (λ i k. onlyZ (eqb (key i) k) (f i))
 
 -- a sum over the numbers that pass
 pub whereZ-is : (n : ℕ) (t : ℕ → Bool) (f : ℕ → ℤ) → sumWhere n t f ≡ sumTo n (λ i. onlyZ (t i) (f i))

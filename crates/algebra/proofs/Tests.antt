@@ -21,6 +21,13 @@ pub cond-no : {A : Type 0} (b : Bool) (x y : A) → ¬ T b → cond b x y ≡ y
 cond-no true x y t = absurd (t tt)
 cond-no false x y t = refl
 
+-- the branch of a test that is known
+pub branch-yes : {A : Type 0} (r test : Bool) (x y : A) → r ≡ test → r ≡ true → x ≡ cond test x y
+branch-yes r test x y e t = rw (← e, t)
+
+pub branch-no : {A : Type 0} (r test : Bool) (x y : A) → r ≡ test → r ≡ false → y ≡ cond test x y
+branch-no r test x y e f = rw (← e, f)
+
 -- equal branches
 pub cond-same : {A : Type 0} (b : Bool) (x : A) → cond b x x ≡ x
 cond-same true x = refl
@@ -54,11 +61,6 @@ or-left false b t = absurd t
 pub or-right : (a b : Bool) → T b → T (a || b)
 or-right true b t = tt
 or-right false b t = t
-
--- one of two tests, where the first fails
-pub or-else : (a b : Bool) → T (a || b) → ¬ T a → T b
-or-else true b t n = absurd (n tt)
-or-else false b t n = t
 
 -- a test equal to true passes
 pub true→T : (b : Bool) → b ≡ true → T b

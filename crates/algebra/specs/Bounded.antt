@@ -23,10 +23,6 @@ unfoldable pub countTo : ℕ → (ℕ → ℕ) → ℕ
 countTo zero f = 0
 countTo (suc n) f = countTo n f + f n
 
--- the sum in ℕ of f i over the numbers i below n that pass the test
-unfoldable pub countWhere : ℕ → (ℕ → Bool) → (ℕ → ℕ) → ℕ
-countWhere n test f = countTo n (λ i. let x = f i in cond (test i) x 0)
-
 -- every number below n passes
 unfoldable pub allTo : ℕ → (ℕ → Bool) → Bool
 allTo zero p = true
@@ -62,5 +58,5 @@ listTo n f = joinTo n (λ i. f i ∷ [])
 
 -- to unfold this is to unfold all of this file: for closed computation
 unfoldable pub opened : Unit {0}
-unfolding implies sumTo sumWhere countTo countWhere allTo anyTo firstTo larger maxUpTo joinTo listTo
+unfolding implies sumTo sumWhere countTo allTo anyTo firstTo larger maxUpTo joinTo listTo
 opened = tt

@@ -3,10 +3,11 @@ ghost use mathlib.Core.Path.{_≡_};
 ghost use Prim.Native.Nat.{suc, _+_, _-_, _/_, _%_, _^_, _≤_, _<_};
 ghost use Rattle.model.specs.Bits.{bit, field, signed};
 
+pub mod fields;
 pub mod runs;
 
+pub use fields::put_field;
 pub use runs::put_run;
-pub use runs::put_word;
 pub use runs::read_run;
 
 // A byte as a number of 64 bits. A cast where the byte is read would ask for a proof that it fits.

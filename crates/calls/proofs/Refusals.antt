@@ -1,13 +1,14 @@
 -- A call that checks its files first, and last one thing more: which refusal it gives.
-use Prim.Native.Nat.{ℕ}
+use Prim.Native.Nat.{ℕ, _≤_, _<_}
 use mathlib.Core.Path.{_≡_, sym, _∙_}
 use mathlib.Core.Bool.{Bool, true, false, cond}
 use mathlib.Core.List.{List, [], _∷_, _++_}
 use lib.Dec.{T, eqb}
-use borrow.Author.Tests.{ne-eqb}
+use borrow.Author.Tests.{ne-eqb, le-leb, lt-leb}
 use Rattle.model.specs.Refusals.{Checks, firstFailing, along, numbers}
 use Rattle.model.specs.GameChecks.{gameChecks, headerChecks, treeChecks, gameRefusal}
-use Rattle.model.specs.PlanChecks.{planChecks, pairChecks}
+use Rattle.model.specs.PlanChecks.{Files, planChecks, pairChecks, pairRefusal}
+use Rattle.model.specs.Calls.{Lent, withRoom}
 use Rattle.model.proofs.Refusals.{nonzero, first-append, first-along, numbers-along}
 use Rattle.game.proofs.Outcomes.{Sent}
 
@@ -55,3 +56,23 @@ module _ {A : Type 0} (part : A → List ℕ) (last : ℕ) (test : A → Bool) (
   pub game-none : gameRefusal (part a) ≡ 0 → test a ≡ true → Then gameChecks some-game part last test a 0
   unfolding gameRefusal
   game-none e f = none-fails gameChecks some-game part last test a e f
+
+-- The pair's checks first, then room for one result, whose length the files give.
+module _ (size : Files → ℕ) (game plan : List ℕ) (room : ℕ) where
+  abbrev files : Files
+  files = record { game = game; plan = plan }
+
+  abbrev pub Measured : ℕ → Type 0
+  Measured k = firstFailing (withRoom pairChecks (λ f. size f ∷ [])) (record { input = files; rooms = room ∷ [] }) ≡ k
+
+  pub pair-first : {r : ℕ} → r ≡ pairRefusal game plan → ¬ (r ≡ 0) → Measured r
+  unfolding pairRefusal withRoom
+  pair-first e n = part-fails pairChecks some-pair (λ (c : Lent Files). c .input) 18 _ _ e n
+
+  pub pair-short : pairRefusal game plan ≡ 0 → room < size files → Measured 18
+  unfolding pairRefusal withRoom
+  pair-short e l = last-fails pairChecks some-pair (λ (c : Lent Files). c .input) 18 _ _ e (rw (lt-leb (size files) room l))
+
+  pub pair-room : pairRefusal game plan ≡ 0 → size files ≤ room → Measured 0
+  unfolding pairRefusal withRoom
+  pair-room e l = none-fails pairChecks some-pair (λ (c : Lent Files). c .input) 18 _ _ e (rw (le-leb (size files) room l))

@@ -1,14 +1,15 @@
 -- The lengths of lent buffers, and what one holds after a call that fills it.
-use Prim.Native.Nat.{ℕ, _≤_}
+use Prim.Native.Nat.{ℕ, suc, _≤_}
 use mathlib.Core.Path.{_≡_, refl, sym, ap}
 use mathlib.Core.Bool.{Bool, true, false, _&&_, false≢true}
 use mathlib.Core.List.{List, _++_}
 use lib.ListN.{drop}
 use lib.Dec.{leb, leb→le}
 use Rattle.algebra.specs.Bounded.{listTo}
+use Rattle.algebra.specs.Arrays.{over}
 use Rattle.algebra.proofs.Lists.{length-listTo}
 use Rattle.model.specs.Calls.{afterCall}
-use Rattle.game.specs.Answers.{over}
+use Rattle.game.proofs.Outcomes.{refuses}
 
 -- a test of lengths that passes, and the others with it
 pub split : (n r : ℕ) {b : Bool} → (leb n r && b) ≡ true → (n ≤ r) × (b ≡ true)
@@ -22,3 +23,9 @@ split n r {b} e = go (leb n r) refl e
 pub over-after : {A : Type 0} (f : ℕ → A) (n : ℕ) (l : List A) → over f n l ≡ afterCall 0 (listTo n f) l
 unfolding over afterCall
 over-after f n l = ap (λ (k : ℕ). listTo n f ++ drop k l) (sym (length-listTo n f))
+
+-- a refusal is answered by its number, and the buffer is as it was
+pub refused-kept : {A B : Type 0} (answer refused : ℕ → A) → ((k : ℕ) → refused (suc k) ≡ answer (suc k)) → (result buffer : List B) {r first : ℕ} → first ≡ r → ¬ (r ≡ 0) → (refused r ≡ answer first) × (buffer ≡ afterCall first result buffer)
+unfolding afterCall
+refused-kept answer refused same result buffer e n =
+    (refuses answer refused same e n, refuses (λ k. afterCall k result buffer) (λ k. buffer) (λ k. refl) e n)

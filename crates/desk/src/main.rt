@@ -3,6 +3,7 @@ ghost use lib.ListN.{length};
 ghost use Rattle.io.specs.Counts.{Counts};
 ghost use Rattle.desk.specs.Parts.{Within};
 use libc::EINTR;
+use libc::STDERR_FILENO;
 use libc::STDOUT_FILENO;
 use report::MOST;
 use report::printing::put_printed;
@@ -71,11 +72,15 @@ fn load(name: &[u8], buffer: &mut [u8]) -> usize
     length
 }
 
-// Prints the text for two files.
+// Prints the text for two files. A text that standard output does not take whole must not pass for one that it took.
 fn print(game: &[u8], plan: &[u8]) {
     let mut text = [0u8; MOST];
     let size = put_printed(game, plan, &mut text);
-    io::write_all(STDOUT_FILENO, &text[..size]);
+    let whole = io::write_all(STDOUT_FILENO, &text[..size]);
+    if whole {
+        return;
+    }
+    io::write_all(STDERR_FILENO, b"the text was not written whole\n");
 }
 
 fn main() {

@@ -7,15 +7,14 @@ use native.Mathlib.Omega.{arith}
 use lib.IntN.{ℤ, pos}
 use lib.Dec.{eqb}
 use Rattle.model.specs.Game.{gameOf, isLeaf, isDecision, isChance}
-use Rattle.model.specs.Sequences.{leading, sequenceNumber}
+use Rattle.model.specs.Sequences.{leadingNumber}
 use Rattle.model.specs.GameChecks.{gameRefusal}
-use Rattle.model.specs.Writing.{payoffField}
+use Rattle.model.specs.Writing.{payoffField, playerField, setField, movesField}
 use Rattle.game.specs.declared.Header.{Header}
 use Rattle.game.specs.declared.OwnSequence.{OwnSequence}
 use Rattle.game.specs.declared.SetEntry.{SetEntry}
 use Rattle.game.specs.declared.NodeRecord.{NodeRecord}
 use Rattle.game.specs.Records.{SetRead, NodeRead}
-use Rattle.game.specs.Columns.{playerField, setField, movesField}
 use Rattle.game.proofs.Columns.{set-player, node-set, node-moves, node-payoff1, node-payoff2}
 use Rattle.game.proofs.Headers.{header-nodes, header-sets, header-weight}
 use Rattle.entry.specs.declared.GameAnswer.the-variants.{Accepted}
@@ -36,7 +35,7 @@ unfolding playerField
 set-is-read bytes {i} r R e = rw (← e, set-player bytes i r R, R .moves)
 
 -- the own sequence that leads to set i, where i is h
-pub sequence-is-read : (bytes : List ℕ) {i h : ℕ} (r : OwnSequence) → r .number ≡ sequenceNumber (gameOf bytes) (gameOf bytes .setPlayer i) (leading (gameOf bytes) i) → i ≡ h → Sequence r ≡ sequenceAnswer 0 bytes h
+pub sequence-is-read : (bytes : List ℕ) {i h : ℕ} (r : OwnSequence) → r .number ≡ leadingNumber (gameOf bytes) i → i ≡ h → Sequence r ≡ sequenceAnswer 0 bytes h
 sequence-is-read bytes {i} r R e = rw (← e) (ap (λ (k : ℕ). Sequence (record { number = k })) R)
 
 -- the first kind, where the payoffs are a and b

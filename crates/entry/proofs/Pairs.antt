@@ -1,26 +1,18 @@
 -- A pair that was read, as the entry points give it, and its weights with the buffer for them.
-use Prim.Native.Nat.{ℕ, zero, suc, _+_, _-_, _≤_, _<_}
+use Prim.Native.Nat.{ℕ, _+_, _-_, _≤_, _<_}
 use mathlib.Core.Path.{_≡_, refl, ap, _∙_}
 use mathlib.Core.List.{List}
 use native.Mathlib.Omega.{arith}
-use borrow.Author.Tests.{le-leb, lt-leb}
-use lib.Dec.{T}
 use lib.ListN.{length}
-use Rattle.algebra.specs.Arrays.{placed}
+use Rattle.algebra.specs.Arrays.{placed, Holds}
 use Rattle.algebra.proofs.Arrays.{placed-first}
 use Rattle.model.specs.Game.{gameOf, one, two}
 use Rattle.model.specs.Sequences.{sequenceCount}
-use Rattle.model.specs.Refusals.{numbers, along}
-use Rattle.model.specs.GameChecks.{gameChecks, headerChecks, treeChecks}
-use Rattle.model.specs.Plan.{planMoves, planPairOf, planWeights}
-use Rattle.model.specs.PlanChecks.{Files, planChecks, pairChecks, pairRefusal}
-use Rattle.model.specs.Calls.{Lent, withRoom, planFieldsChecks, afterCall}
-use Rattle.model.proofs.Refusals.{nonzero}
-use Rattle.game.specs.Answers.{Holds}
+use Rattle.model.specs.Plan.{planMoves, planWeights}
+use Rattle.model.specs.PlanChecks.{Files, pairRefusal}
+use Rattle.model.specs.Calls.{planFieldsChecks, afterCall}
 use Rattle.game.specs.declared.SequenceCounts.{SequenceCounts}
-use Rattle.game.proofs.Outcomes.{refuses}
 use Rattle.plan.specs.declared.PairHeader.{PairHeader}
-use Rattle.plan.specs.Header.{denominatorsOf}
 use Rattle.plan.specs.Weights.{weightByNumber}
 use Rattle.plan.specs.Answers.{inFileOrder}
 use Rattle.plan.proofs.Pairs.{PairOpened, pair-counted, file-order}
@@ -28,7 +20,8 @@ use Rattle.entry.specs.declared.PlanAnswer.the-variants.{Fits}
 use Rattle.entry.specs.declared.WeightsAnswer.{WeightsAnswer}
 use Rattle.entry.specs.declared.WeightsAnswer.the-variants.{Given, Refused}
 use Rattle.entry.specs.Plans.{planAnswer, weightsRefusal, weightsAnswer}
-use Rattle.calls.proofs.Refusals.{some-pair, part-fails, last-fails, none-fails}
+use Rattle.calls.proofs.Refusals.{pair-first, pair-short, pair-room}
+use Rattle.calls.proofs.Rooms.{refused-kept}
 use Rattle.calls.proofs.Denominators.{first-is, second-is}
 
 pub plan-is-read : (game plan : List ℕ) (h : PairHeader) → PairOpened game plan h → Fits (h .denominators .first) (h .denominators .second) ≡ planAnswer (pairRefusal game plan) game plan
@@ -43,27 +36,25 @@ module _ (game plan buffer : List ℕ) where
   abbrev pub Result : WeightsAnswer → List ℕ → Type 0
   Result r after = (r ≡ weightsAnswer (weightsRefusal game plan room) game plan) × (after ≡ afterCall (weightsRefusal game plan room) (planWeights (gameOf game) plan) buffer)
 
-  kept-is : {r : ℕ} → weightsRefusal game plan room ≡ r → ¬ (r ≡ 0) → Result (Refused r) buffer
-  unfolding afterCall
-  kept-is {r} e n = (refuses (λ k. weightsAnswer k game plan) Refused (λ k. refl) e n, go r e n)
-    where
-      go : (r : ℕ) → weightsRefusal game plan room ≡ r → ¬ (r ≡ 0) → buffer ≡ afterCall (weightsRefusal game plan room) (planWeights (gameOf game) plan) buffer
-      go zero e n = absurd (n refl)
-      go (suc r) e n = rw e
+  abbrev size : Files → ℕ
+  size f = planMoves (gameOf (f .game))
+
+  refused : {r : ℕ} → weightsRefusal game plan room ≡ r → ¬ (r ≡ 0) → Result (Refused r) buffer
+  refused e n = refused-kept (λ k. weightsAnswer k game plan) Refused (λ k. refl) (planWeights (gameOf game) plan) buffer e n
 
   -- the pair's own refusal
   pub pair-refused : {r : ℕ} → r ≡ pairRefusal game plan → ¬ (r ≡ 0) → Result (Refused r) buffer
-  unfolding pairRefusal planFieldsChecks withRoom
-  pair-refused e n = kept-is (part-fails pairChecks some-pair (λ (c : Lent Files). c .input) 18 _ _ e n) n
+  unfolding planFieldsChecks
+  pair-refused e n = refused (pair-first size game plan room e n) n
 
   -- a buffer too short
   pub no-room : pairRefusal game plan ≡ 0 → room < planMoves (gameOf game) → Result (Refused 18) buffer
-  unfolding pairRefusal planFieldsChecks withRoom
-  no-room e l = kept-is (last-fails pairChecks some-pair (λ (c : Lent Files). c .input) 18 _ _ e (rw (lt-leb (planMoves (gameOf game)) room l))) (λ z. omega arith)
+  unfolding planFieldsChecks
+  no-room e l = refused (pair-short size game plan room e l) (λ z. omega arith)
 
   free : pairRefusal game plan ≡ 0 → planMoves (gameOf game) ≤ room → weightsRefusal game plan room ≡ 0
-  unfolding pairRefusal planFieldsChecks withRoom
-  free e l = none-fails pairChecks some-pair (λ (c : Lent Files). c .input) 18 _ _ e (rw (le-leb (planMoves (gameOf game)) room l))
+  unfolding planFieldsChecks
+  free e l = pair-room size game plan room e l
 
   -- as many weights as there are moves
   pub weights-counted : {h : PairHeader} → PairOpened game plan h → {n : ℕ} → n ≡ (h .counts .first - 1) + (h .counts .second - 1) → n ≡ planMoves (gameOf game)

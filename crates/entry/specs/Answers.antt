@@ -3,7 +3,7 @@ use Prim.Native.Nat.{ℕ, zero, suc}
 use mathlib.Core.List.{List}
 use lib.IntN.{ℤ}
 use Rattle.model.specs.Game.{Game, gameOf, one, two, playerBit}
-use Rattle.model.specs.Sequences.{leading, sequenceNumber}
+use Rattle.model.specs.Sequences.{leadingNumber}
 use Rattle.model.specs.Calls.{Numbered}
 use Rattle.game.specs.declared.NodeRecord.{NodeRecord}
 use Rattle.entry.specs.declared.GameAnswer.{GameAnswer}
@@ -37,10 +37,11 @@ nodeOf zero stand payoff1 payoff2 set moves = Node.Leaf stand payoff1 payoff2
 nodeOf (suc zero) stand payoff1 payoff2 set moves = Node.Decision stand set
 nodeOf (suc (suc k)) stand payoff1 payoff2 set moves = Node.Chance stand moves
 
--- node n of a game
+-- where node n stands: its parent, its move there (`place`) and its chance weight
 abbrev pub standOf : Game → (n : ℕ) → Stand
 standOf g n = record { parent = g .parent n; place = g .move n; weight = g .weight n }
 
+-- node n of a game
 abbrev pub nodeIn : Game → (n : ℕ) → NodeAnswer
 nodeIn g n = nodeOf (g .kind n) (standOf g n) (g .payoff one n) (g .payoff two n) (g .nodeSet n) (g .chanceMoves n)
 
@@ -51,12 +52,13 @@ nodeAnswer (suc k) bytes n = Node.Refused (suc k)
 
 -- the number of the own sequence leading to set h
 abbrev pub sequenceAnswer : (refusal : ℕ) → List ℕ → (h : ℕ) → SequenceAnswer
-sequenceAnswer zero bytes h = Sequence.Sequence (record { number = sequenceNumber (gameOf bytes) (gameOf bytes .setPlayer h) (leading (gameOf bytes) h) })
+sequenceAnswer zero bytes h = Sequence.Sequence (record { number = leadingNumber (gameOf bytes) h })
 sequenceAnswer (suc k) bytes h = Sequence.Refused (suc k)
 
--- a record that was read
+-- where a node stands whose record was read
 abbrev pub standRead : NodeRecord → Stand
 standRead r = record { parent = r .parent; place = r .place; weight = r .weight }
 
+-- a node whose record was read
 abbrev pub nodeRead : NodeRecord → NodeAnswer
 nodeRead r = nodeOf (r .kind) (standRead r) (r .payload .payoff1) (r .payload .payoff2) (r .payload .set) (r .payload .moves)

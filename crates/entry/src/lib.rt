@@ -40,13 +40,13 @@ pub enum GameAnswer {
     Refused(u64),
 }
 
-// The entry of an information set; a refusal is 1 to 13, or 17.
+// The entry of an information set: its player, 0 for player 1 and 1 for player 2, and its move count; a refusal is 1 to 13, or 17.
 pub enum SetAnswer {
     Entry { player: u64, moves: u64 },
     Refused(u64),
 }
 
-// Where a node stands, and its chance weight.
+// Where a node stands, and its chance weight; `place` is its move at the parent.
 pub struct Stand {
     pub parent: u64,
     pub place: u64,
@@ -71,7 +71,7 @@ pub enum NodeAnswer {
     Refused(u64),
 }
 
-// The own sequence leading to a set; a refusal is 1 to 13, or 17.
+// The own sequence leading to a set, by its number among the sequences of the set's player; a refusal is 1 to 13, or 17.
 pub enum SequenceAnswer {
     Sequence(OwnSequence),
     Refused(u64),
@@ -83,7 +83,7 @@ pub enum PlanAnswer {
     Refused(u64),
 }
 
-// All weights of a plan stand in the lent buffer; a refusal is 1 to 16, or 18.
+// D1, D2 and how many weights the plan has, which stand in the lent buffer; a refusal is 1 to 16, or 18.
 pub enum WeightsAnswer {
     Given { first: u64, second: u64, count: u64 },
     Refused(u64),
@@ -164,7 +164,7 @@ pub fn node_record(game: &[u8], number: u64) -> NodeAnswer
     node_by_kind(NodeRecord::read(game, header.records, bits::index(number)))
 }
 
-// The own sequence that leads to set `number`.
+// The own sequence of its player that leads to set `number`.
 pub fn own_sequence(game: &[u8], number: u64) -> SequenceAnswer
     ensures { λ r. ⌜ r ≡ sequenceAnswer (firstFailing setNumberChecks (numbered (now (game .entry)) number)) (now (game .entry)) number ⌝ }
 {

@@ -5,12 +5,11 @@ use mathlib.Core.List.{List}
 use native.Mathlib.Omega.{arith}
 use lib.IntN.{ℤ, pos}
 use lib.ListN.{length}
-use Rattle.model.specs.Game.{Player, gameOf, one, two}
+use Rattle.model.specs.Game.{Player, gameOf, one, two, playerNumber}
 use Rattle.model.specs.Plan.{planPairOf}
 use Rattle.model.specs.Earnings.{valueBase}
 use Rattle.model.specs.Verdict.{Verdict, equilibrium, deviation}
 use Rattle.model.specs.Calls.{afterCall, shownMoves}
-use Rattle.verdict.specs.Judgement.{playerNumber}
 use Rattle.verdict.specs.Demand.{Stated, deviates, Demand3Met}
 use Rattle.verdict.specs.declared.VerdictAnswer.{VerdictAnswer}
 use Rattle.verdict.specs.declared.VerdictAnswer.the-variants.{Accepted, Deviation, Refused}

@@ -3,10 +3,9 @@ use Prim.Native.Nat.{ℕ, zero, suc}
 use mathlib.Core.Path.{_≡_}
 use mathlib.Core.List.{List}
 use lib.IntN.{ℤ, pos}
-use Rattle.model.specs.Game.{gameOf}
+use Rattle.model.specs.Game.{gameOf, playerNumber}
 use Rattle.model.specs.Plan.{planPairOf}
 use Rattle.model.specs.Verdict.{Verdict, equilibrium, deviation}
-use Rattle.verdict.specs.Judgement.{playerNumber}
 use Rattle.verdict.specs.Demand.{Stated, accepted, deviates, Demand3Met}
 
 -- the player whose deviation is shown, 1 or 2; 0 where the pair is accepted

@@ -4,9 +4,9 @@ ghost use mathlib.Core.Path.{_≡_};
 ghost use lib.ListN.{length};
 ghost use Rattle.model.specs.Game.{gameOf, one, two};
 ghost use Rattle.model.specs.Plan.{planPairOf, planWeights};
-ghost use Rattle.model.specs.Writing.{gameBytes, planBytes};
+ghost use Rattle.model.specs.Writing.{gameBytes, planBytes, gameFields};
 ghost use Rattle.model.specs.Calls.{afterCall, shownMoves};
-ghost use Rattle.writers.specs.GameWriter.{gameFields, gameWriterRefusal};
+ghost use Rattle.writers.specs.GameWriter.{gameWriterRefusal};
 ghost use Rattle.writers.specs.PlanWriter.{planWriterRefusal};
 ghost use Rattle.entry.specs.Plans.{weightsRefusal};
 ghost use Rattle.model.specs.GameChecks.{gameRefusal};
@@ -52,7 +52,7 @@ pub extern "C" fn desk_check_game(
     }
 }
 
-// Gives all fields of a game, each in its buffer.
+// Gives all fields of a game, each in its buffer, as `entry::game_fields` does.
 #[no_mangle]
 pub extern "C" fn desk_game_fields(
     game: &[u8],
@@ -146,7 +146,7 @@ pub extern "C" fn desk_payoff_table(
     }
 }
 
-// Gives the players' values and best values, and D0, D1 and D2.
+// Gives the players' values over D0 × D1 × D2, their best values over D0 × the other's D, and D0, D1 and D2.
 #[no_mangle]
 pub extern "C" fn desk_values(
     game: &[u8],
@@ -192,7 +192,8 @@ pub extern "C" fn desk_values(
     }
 }
 
-// Judges a pair: 0, or the player who can gain, with his gain and the moves of his strategy, one a set; and D0, D1 and D2 multiplied.
+// Judges a pair: `player` is 0 where it is accepted, else the player, 1 or 2, who can gain; `gain` is his gain over `base`, which is D0 × D1 × D2,
+// and `moves` has the moves of his strategy, one a set, `count` of them. The last `ensures` is demand 3.
 #[no_mangle]
 pub extern "C" fn desk_verdict(
     game: &[u8],
@@ -236,7 +237,7 @@ pub extern "C" fn desk_verdict(
     }
 }
 
-// Writes the desk program's text for two files, and gives its length.
+// Writes the desk program's text for two files that fit, and gives its length.
 #[no_mangle]
 pub extern "C" fn desk_report(game: &[u8], plan: &[u8], out: &mut [u8], size: &mut u64) -> u64
     ensures { λ r. ⌜ r ≡ reportRefusal (now (game .entry)) (now (plan .entry)) (length (now (out .entry))) ⌝ }
@@ -270,7 +271,7 @@ pub extern "C" fn desk_refusal_line(number: u64, out: &mut [u8], size: &mut u64)
     }
 }
 
-// Writes a plan file, and gives its length.
+// Writes a plan file from D1, D2 and all weights in file order, and gives its length.
 #[no_mangle]
 pub extern "C" fn desk_write_plan(
     d1: u64,
@@ -293,7 +294,7 @@ pub extern "C" fn desk_write_plan(
     }
 }
 
-// Writes a game file, and gives its length.
+// Writes a game file from D0 and all fields, as `desk_game_fields` gives them, and gives its length.
 #[no_mangle]
 pub extern "C" fn desk_write_game(
     root_weight: u64,

@@ -1,19 +1,15 @@
 -- The call that gives all fields: its refusals, and its ten buffers afterwards.
-use Prim.Native.Nat.{ℕ, zero, suc, _≤_}
-use mathlib.Core.Path.{_≡_, refl, sym, ap, _∙_}
-use mathlib.Core.Bool.{Bool, true, false, _&&_, false≢true}
-use mathlib.Core.List.{List, [], _∷_, _++_}
+use Prim.Native.Nat.{ℕ, zero, suc}
+use mathlib.Core.Path.{_≡_, refl, sym, _∙_}
+use mathlib.Core.Bool.{Bool, true, false}
+use mathlib.Core.List.{List, [], _∷_}
 use native.Mathlib.Omega.{arith}
-use lib.ListN.{drop}
-use lib.Dec.{leb, leb→le}
-use Rattle.algebra.specs.Bounded.{listTo}
-use Rattle.algebra.proofs.Lists.{length-listTo}
+use Rattle.algebra.specs.Arrays.{over}
 use Rattle.model.specs.Game.{gameOf, one, two}
 use Rattle.model.specs.Calls.{longEnough, afterCall, withRoom, gameFieldsChecks}
-use Rattle.model.specs.Writing.{GameFields, fieldsOf, payoffField}
+use Rattle.model.specs.Writing.{GameFields, fieldsOf, payoffField, playerField, setField, movesField}
 use Rattle.game.specs.declared.Header.{Header}
-use Rattle.game.specs.Answers.{over}
-use Rattle.game.specs.Columns.{playerField, setField, movesField, fieldLists, Room, filled}
+use Rattle.game.specs.Columns.{fieldLists, Room, filled}
 use Rattle.game.proofs.Headers.{header-nodes, header-sets, header-weight}
 use Rattle.fields.specs.declared.FieldsAnswer.{FieldsAnswer}
 use Rattle.fields.specs.declared.FieldsAnswer.the-variants.{Given, Refused}
@@ -40,7 +36,7 @@ module _ (bytes : List ℕ) (b : GameFields) where
       go (suc r) e n = rw e
 
   filled-is : fieldsRefusal bytes b ≡ 0 → filled (gameOf bytes) b ≡ buffersAfter bytes b
-  unfolding buffersAfter fieldsOf playerField setField movesField
+  unfolding buffersAfter fieldsOf
   filled-is e =
       let g = gameOf bytes in
       rw (

@@ -5,7 +5,7 @@ ghost use Rattle.model.specs.Calls.{longEnough};
 ghost use Rattle.game.specs.Columns.{fieldLists};
 ghost use Rattle.fields.specs.GameFields.{fieldsRefusal, fieldsAnswer, buffersAfter};
 
-// All fields of a game stand in the lent buffers; a refusal is 1 to 13, or 18.
+// N, H and D0 of a game whose fields stand in the lent buffers; a refusal is 1 to 13, or 18.
 pub enum FieldsAnswer {
     Given {
         nodes: u64,
@@ -44,7 +44,8 @@ fn has_room(
     calls::room_and(h, set_players, ok)
 }
 
-// All fields of a game, each into its buffer.
+// All fields of a game, each into its buffer: by set the player (0 is player 1) and the move count; by node the kind, the parent, the move there,
+// the chance weight, a decision's set, a chance node's move count and a leaf's two payoffs. What a kind lacks is 0.
 pub fn game_fields(
     game: &[u8],
     set_players: &mut [u64],

@@ -8,8 +8,10 @@ use lib.IntN.{ℤ, pos}
 use lib.Signed.{leZ}
 use lib.ListN.{length}
 use Rattle.algebra.specs.Bounded.{maxUpTo}
+use Rattle.algebra.specs.Arrays.{over}
 use Rattle.algebra.proofs.Tests.{dec, cond-yes, cond-no}
 use Rattle.algebra.proofs.Searches.{maxUpTo-cong, firstTo-cong}
+use Rattle.algebra.proofs.Fillings.{length-over, over-at, over-cong}
 use Rattle.model.specs.Game.{Game, Player, owns}
 use Rattle.model.specs.Sequences.{Sequence, extended, leading, sequenceNumber, sequenceCount}
 use Rattle.model.specs.Plan.{RealizationPlan}
@@ -20,14 +22,11 @@ use Rattle.model.proofs.Sequences.{number-empty}
 use Rattle.model.proofs.Tree.{IsSequence, empty, after, leading-sequence}
 use Rattle.model.proofs.Numbers.{number-below}
 use Rattle.model.proofs.Worths.{worth-sequence, worth-set}
-use Rattle.game.specs.Answers.{over}
-use Rattle.game.proofs.Loops.{length-over, over-at}
 use Rattle.responses.specs.PlayerTables.{tablesFor, tableWorth}
 use Rattle.form.specs.Prepared.{Prepared}
-use Rattle.responses.specs.BestMoves.{firstGreatest, bestStored, bestOf, MovesStored}
+use Rattle.responses.specs.BestMoves.{firstGreatest, bestStored, bestOf}
 use Rattle.form.specs.BestMoves.{ownBestMove}
-use Rattle.gather.proofs.SetColumns.{over-same}
-use Rattle.form.proofs.Preparing.{lead-own, lead-other, owned, move-at}
+use Rattle.form.proofs.Preparing.{lead-own, lead-other, move-at}
 use Rattle.form.proofs.PreparedTables.{LeafSums, table-worth}
 
 -- By number, the worths of p's sequences against y.
@@ -87,17 +86,6 @@ module _ (g : Game) (R : GameRules g) (p : Player) (y : RealizationPlan) {head n
             ∙ sym (cond-no (owns g p h) (bestMove g p y h) 0 o)
       ]
 
-  -- What `best_moves` requires of the stored worths holds,
-  pub moves-stored : MovesStored stored lead start count (sequenceCount g p) (g .sets)
-  moves-stored = record {
-    some-move = λ h l b. omega (arith, P .count-holds .at h l, R .set-moves h l .0);
-    stored = λ h l b.
-        let o = owned P h l b in
-        let last = pred (g .setMoves h) in
-        let below = number-below g p (extended (leading g h) h last) (after {h = h} {m = last} l o (omega (arith, R .set-moves h l .0))) in
-        omega (arith, W .long, move-at P h last l o, P .count-holds .at h l, R .set-moves h l .0, below);
-  }
-
-  -- and it gives the model's best moves.
+  -- what `best_moves` gives are the model's best moves
   pub best-moves-are : (before moves : List ℕ) → moves ≡ over (bestOf stored lead start count (sequenceCount g p)) (g .sets) before → moves ≡ over (ownBestMove g p y) (g .sets) before
-  best-moves-are before moves e = e ∙ over-same (bestOf stored lead start count (sequenceCount g p)) (ownBestMove g p y) (g .sets) before best-of-is
+  best-moves-are before moves e = e ∙ over-cong (bestOf stored lead start count (sequenceCount g p)) (ownBestMove g p y) (g .sets) before best-of-is

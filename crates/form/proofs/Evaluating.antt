@@ -8,13 +8,14 @@ use Rattle.model.specs.Sequences.{sequenceCount}
 use Rattle.model.specs.Earnings.{valueCount}
 use Rattle.model.specs.BestResponse.{bestCount}
 use Rattle.model.specs.Demand1.{GameRules}
-use Rattle.model.specs.Demand2.{ByNumber}
+use Rattle.model.proofs.Table.{ByNumber}
 use Rattle.model.specs.Writing.{entry}
 use Rattle.model.proofs.Budget.{GameLimits}
 use Rattle.game.specs.declared.SequenceCounts.{SequenceCounts}
 use Rattle.game.specs.Sets.{countsOf}
 use Rattle.plan.specs.Weights.{planByNumber, pairByNumber}
-use Rattle.gather.specs.Leaves.{Gathered, ofPlayer}
+use Rattle.gather.proofs.LeafColumns.{ofPlayer}
+use Rattle.gather.specs.Leaves.{Gathered}
 use Rattle.slices.specs.Sums.{pairSumTo, ValueReady}
 use Rattle.form.specs.Values.{valuesOf, PairWeights}
 use Rattle.form.proofs.LeafLaws.{plan-by-number, value-is, value-ready}

@@ -21,24 +21,18 @@ use Rattle.model.specs.Table.{ownNumber}
 use Rattle.model.specs.Earnings.{leafTerm, valueTerm, valueCount}
 use Rattle.model.specs.BestResponse.{leavesWorth}
 use Rattle.model.specs.Demand1.{GameRules}
-use Rattle.model.specs.Demand2.{ByNumber}
-use Rattle.model.specs.Writing.{entry, entryZ}
-use Rattle.model.proofs.Budget.{GameLimits, Budget}
-use Rattle.model.proofs.Numbers.{number-below, number-same, own-number-below}
+use Rattle.model.specs.Writing.{entry}
+use Rattle.model.proofs.Budget.{GameLimits, ResponseBudget, Budget}
+use Rattle.model.proofs.Numbers.{number-same}
+use Rattle.model.proofs.Table.{ByNumber}
 use Rattle.model.proofs.Sequences.{same→eq, eq→same}
 use Rattle.model.proofs.Tree.{IsSequence, own-sequence}
-use Rattle.game.specs.Answers.{Holds, over}
-use Rattle.game.proofs.Loops.{over-at}
 use Rattle.plan.specs.Weights.{planByNumber, Weights}
 use Rattle.plan.proofs.ByNumber.{weight-at}
-use Rattle.gather.specs.Leaves.{leavesOf, leafOf, Column, Gathered, PlayerLeaves, ofPlayer}
+use Rattle.gather.specs.Leaves.{leavesOf, leafOf, Column, Gathered, PlayerLeaves}
 use Rattle.slices.specs.Sums.{opponentTerm, sumAt, pairTerm, pairSumTo, SumsReady, ValueReady}
 use Rattle.gather.proofs.LeafSums.{leaves-sum, leaves-prefix, leaf-in}
-use Rattle.gather.proofs.LeafColumns.{player-leaves, column-below}
-
--- an array that holds weights by number has them at the numbers of own sequences
-pub held-by-number : (g : Game) → GameRules g → (p : Player) (plan : RealizationPlan) (f : ℕ → ℕ) {x : List ℕ} → ByNumber g p plan f → Holds f (sequenceCount g p) x → ByNumber g p plan (entry x)
-held-by-number g R p plan f N held n l = held .at (ownNumber g p n) (own-number-below g R p n l) ∙ N n l
+use Rattle.gather.proofs.LeafColumns.{player-leaves, column-below, ofPlayer}
 
 -- and a plan that is given by number has them
 pub plan-by-number : (g : Game) (p : Player) (f : ℕ → ℕ) → ByNumber g p (planByNumber g p f) f
@@ -106,18 +100,14 @@ module _ (g : Game) (R : GameRules g) (p : Player) (plan : RealizationPlan) {cou
       ∙ leaves-sum g (numbered g R p plan s)
       ∙ at-sequence g R p plan r S (g .nodes) (omega arith)
 
-  -- so an array that is filled with the sums has it at each sequence's number
-  pub sums-at : {out : List ℤ} (before : List ℤ) → out ≡ over (sumAt opponent chance payoffs y own count) (sequenceCount g p) before → (r : Sequence) → IsSequence g p r → entryZ out (sequenceNumber g p r) ≡ leavesWorth g p plan r
-  sums-at before e r S = rw e (over-at (pos 0) _ (sequenceCount g p) before (sequenceNumber g p r) (number-below g p r S) ∙ sum-is r S)
-
   partial-fits : ((r : Sequence) (m : ℕ) → m ≤ g .nodes → SFits w64 (sumWhere m (λ n. isLeaf g n && same (ownSequence g p n) r) (leafTerm g p plan))) → (j s : ℕ) → j ≤ count → SFits w64 (sumAt opponent chance payoffs y own j s)
   partial-fits B j s l =
       let r = leaves-prefix g (numbered g R p plan s) j (omega (arith, L .counted)) in
       rw (prefix-is j s l, r .2) (numbered-fits g R p plan B s (r .0) (r .1))
 
 -- What `sums` requires of the slices holds, for a player's leaves and weights of the opponent by number.
-pub sums-ready : (g : Game) → GameRules g → GameLimits g → (q : PlanPair) → Budget g q → (p : Player) {count : ℕ} {own opponent chance : List ℕ} {payoffs : List ℤ} {y : List ℕ} → PlayerLeaves g p count own opponent chance payoffs → Weights g (other p) y → ByNumber g (other p) (q (other p)) (entry y) → SumsReady count (sequenceCount g p) own opponent chance payoffs y
-sums-ready g R M q B p {count} {own} {opponent} {chance} {payoffs} {y} L W N = record {
+pub sums-ready : (g : Game) → GameRules g → GameLimits g → (p : Player) (plan : RealizationPlan) → ResponseBudget g p plan → {count : ℕ} {own opponent chance : List ℕ} {payoffs : List ℤ} {y : List ℕ} → PlayerLeaves g p count own opponent chance payoffs → Weights g (other p) y → ByNumber g (other p) plan (entry y) → SumsReady count (sequenceCount g p) own opponent chance payoffs y
+sums-ready g R M p plan B {count} {own} {opponent} {chance} {payoffs} {y} L W N = record {
   own-long = omega (arith, L .counted, L .own-is .long);
   opponent-long = omega (arith, L .counted, L .opponent-is .long);
   chance-long = omega (arith, L .counted, L .chance-is .long);
@@ -126,7 +116,7 @@ sums-ready g R M q B p {count} {own} {opponent} {chance} {payoffs} {y} L W N = r
   opponent-below = λ k l. omega (arith, W .long, facing k l);
   chance-small = λ k l. rw (L .chance-is .at 0 k (in-all k l)) (M .weights (leafOf g k));
   weight-small = λ k l. W .small (entry opponent k) (facing k l);
-  fit = λ n s l. partial-fits g R p (q (other p)) y L N (λ r m v. B .leaves p r m v) n s l;
+  fit = λ n s l. partial-fits g R p plan y L N (B .leaves) n s l;
 }
   where
     in-all : (k : ℕ) → k < count → k < length (leavesOf g)

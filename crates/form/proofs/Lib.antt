@@ -4,5 +4,4 @@ pub mod LeafLaws
 pub mod PairBudget
 pub mod PreparedTables
 pub mod Preparing
-pub mod Reached
 pub mod Responding

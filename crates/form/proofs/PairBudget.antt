@@ -1,37 +1,22 @@
 -- Weights by number that are of 16 bits, of plans that fit: every sum over them stays within an i64.
 use Prim.Native.Nat.{ℕ, _≤_}
-use mathlib.Core.Path.{_≡_, refl}
+use mathlib.Core.Path.{_≡_}
 use mathlib.Core.Bool.{true}
 use mathlib.Core.List.{List}
 use native.Mathlib.Omega.{arith}
-use native.Mathlib.Decide.{decLt}
-use lib.ListN.{length, List·getD-eq-default}
+use lib.ListN.{length}
 use Rattle.algebra.proofs.Tests.{true→T}
 use Rattle.model.specs.Game.{Game, Player, one, two}
 use Rattle.model.specs.Sequences.{sequenceCount}
 use Rattle.model.specs.Plan.{PlanPair, pairFits}
 use Rattle.model.specs.Demand1.{GameRules}
 use Rattle.model.specs.Writing.{entry}
-use Rattle.model.proofs.Budget.{GameLimits, PlanLimits, Budget, budget}
+use Rattle.model.proofs.Budget.{budget, GameLimits, PlanLimits, Budget}
 use Rattle.model.proofs.Duality.{Fits}
 use Rattle.model.proofs.Numbers.{sequences-few}
 use Rattle.model.proofs.PlanRules.{pair-fits-iff}
 use Rattle.plan.specs.Weights.{planByNumber, pairByNumber, Small, Weights}
-use Rattle.form.specs.Opponents.{Opponent}
 use Rattle.form.specs.Values.{PairWeights}
-
--- past its end a list has no weight above 16 bits either
-small-anywhere : (x : List ℕ) → Small (length x) x → (i : ℕ) → entry x i ≤ 65535
-small-anywhere x small i =
-    elim (decLt i (length x)) [
-      | yes l ↦ small i l
-      | no l ↦ omega (arith, List·getD-eq-default x 0 {n = i} (omega arith))
-    ]
-
--- so neither has the plan
-pub small-plan : (g : Game) (p : Player) (x : List ℕ) → Small (length x) x → PlanLimits (planByNumber g p (entry x))
-unfolding planByNumber
-small-plan g p x small = record { denominator = small-anywhere x small 0; weights = λ h m. small-anywhere x small _ }
 
 -- the test of check 16 passes where both plans fit
 pub both-fit : (g : Game) (q : PlanPair) → pairFits g q ≡ true → (p : Player) → Fits g p (q p)
@@ -46,9 +31,9 @@ long-weights g R L p x b small =
 module _ (g : Game) (R : GameRules g) (L : GameLimits g) {x y : List ℕ} (W : PairWeights g x y) where
   -- the pair's plans
   pair-limits : (p : Player) → PlanLimits (pairByNumber g (entry x) (entry y) p)
-  unfolding pairByNumber
-  pair-limits one = small-plan g one x (W .small1)
-  pair-limits two = small-plan g two y (W .small2)
+  unfolding pairByNumber planByNumber
+  pair-limits one = record { denominator = W .small1 0 (omega (arith, W .long1)) }
+  pair-limits two = record { denominator = W .small2 0 (omega (arith, W .long2)) }
 
   -- the budget is kept
   pub pair-budget : Budget g (pairByNumber g (entry x) (entry y))
@@ -61,13 +46,3 @@ module _ (g : Game) (R : GameRules g) (L : GameLimits g) {x y : List ℕ} (W : P
   -- and player 2's
   pub weights2 : Weights g two y
   weights2 = long-weights g R L two y (W .long2) (W .small2)
-
-  -- player 2 as player 1's opponent
-  pub opponent1 : Opponent g one y
-  unfolding pairByNumber
-  opponent1 = record { weights = weights2; pair = pairByNumber g (entry x) (entry y); budget = pair-budget; plan-is = refl }
-
-  -- and player 1 as player 2's
-  pub opponent2 : Opponent g two x
-  unfolding pairByNumber
-  opponent2 = record { weights = weights1; pair = pairByNumber g (entry x) (entry y); budget = pair-budget; plan-is = refl }

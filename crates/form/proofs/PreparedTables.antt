@@ -11,27 +11,27 @@ use mir.Syntax.{w64}
 use mir.Val.{SFits}
 use mir.Facts.{yes-and}
 use Rattle.algebra.specs.Bounded.{sumWhere}
+use Rattle.algebra.specs.Arrays.{over}
 use Rattle.algebra.proofs.Tests.{bool-same, eqb-make}
 use Rattle.algebra.proofs.Searches.{maxUpTo-cong}
 use Rattle.algebra.proofs.Sums.{where-cong, where-tests}
-use Rattle.model.specs.Game.{Game, Player, other, owns}
+use Rattle.algebra.proofs.Fillings.{length-over, over-at}
+use Rattle.model.specs.Game.{Game, Player, owns}
 use Rattle.model.specs.Sequences.{Sequence, extended, same, leading, moveNumber, sequenceNumber, sequenceCount}
-use Rattle.model.specs.Plan.{RealizationPlan, PlanPair}
-use Rattle.model.specs.BestResponse.{leadsTo, greatestMove, leavesWorth, worthIn}
+use Rattle.model.specs.Plan.{RealizationPlan}
+use Rattle.model.specs.BestResponse.{leadsTo, leavesWorth, worthIn, greatestWorth}
 use Rattle.model.specs.Writing.{entry, entryZ}
 use Rattle.model.specs.Demand1.{GameRules}
 use Rattle.model.proofs.Sequences.{eq→same, number-extended}
 use Rattle.model.proofs.Tree.{IsSequence, empty, after, first-in, leading-sequence}
 use Rattle.model.proofs.Numbers.{number-below, number-same}
 use Rattle.model.proofs.Worths.{leads-parts}
-use Rattle.model.proofs.Budget.{GameLimits, Budget}
-use Rattle.game.specs.Answers.{over}
-use Rattle.game.proofs.Loops.{length-over, over-at}
+use Rattle.model.proofs.Budget.{GameLimits, ResponseBudget}
+use Rattle.model.proofs.Reached.{move-found, number-found, first-before}
 use Rattle.responses.specs.PlayerTables.{PlayerTables, tablesFor, tableLeads, tableGreatest, tablePartial, tableWorth, OwnSet, MoveOf, Ready}
 use Rattle.form.specs.Prepared.{Prepared}
 use Rattle.slices.proofs.Chaining.{from-like, next-like}
 use Rattle.form.proofs.Preparing.{lead-own, owned, move-at}
-use Rattle.form.proofs.Reached.{move-found, number-found, first-before}
 
 -- By number, what the leaves at each of p's sequences are worth against y.
 pub record LeafSums (g : Game) (p : Player) (y : RealizationPlan) (sums : List ℤ) : Type 0 where
@@ -50,10 +50,10 @@ module _ (g : Game) (R : GameRules g) (p : Player) (y : RealizationPlan) {sums :
   t = tablesFor (sequenceCount g p) (g .sets) sums head next lead start count node
 
   sequences-are : length (t .head) ≡ sequenceCount g p
-  sequences-are = length-take-le (sequenceCount g p) head (P .head-holds .long)
+  sequences-are = length-take-le (sequenceCount g p) head (P .chains .head-holds .long)
 
   sets-are : length (t .lead) ≡ g .sets
-  sets-are = length-take-le (g .sets) lead (P .lead-holds .long)
+  sets-are = length-take-le (g .sets) lead (P .chains .lead-holds .long)
 
   -- what leads to a set stands in the part that is lent
   lead-like : (h : ℕ) → h < g .sets → entry (t .lead) h ≡ entry lead h
@@ -80,14 +80,14 @@ module _ (g : Game) (R : GameRules g) (p : Player) (y : RealizationPlan) {sums :
           eqb-make (entry (t .lead) h) (sequenceNumber g p s) (lead-like h l ∙ lead-own P h l (a .0) ∙ ap (sequenceNumber g p) (a .1))
 
   -- a set's worth, where sequences have theirs
-  greatest-is : (f : ℕ) → ((s : Sequence) → IsSequence g p s → tableWorth t f (sequenceNumber g p s) ≡ worthIn g p y f s) → (h : ℕ) → h < g .sets → T (owns g p h) → tableGreatest t (tableWorth t f) h ≡ greatestMove g (worthIn g p y f) h
-  unfolding tableGreatest greatestMove
+  greatest-is : (f : ℕ) → ((s : Sequence) → IsSequence g p s → tableWorth t f (sequenceNumber g p s) ≡ worthIn g p y f s) → (h : ℕ) → h < g .sets → T (owns g p h) → tableGreatest t (tableWorth t f) h ≡ greatestWorth g (worthIn g p y f) h
+  unfolding tableGreatest greatestWorth
   greatest-is f each h l o =
       rw (P .count-holds .at h l)
       (maxUpTo-cong (pred (g .setMoves h)) _ _ (λ m b. rw (move-at P h m l o) (each (extended (leading g h) h m) (after {h = h} {m = m} l o (omega (arith, R .set-moves h l .0))))))
 
   -- a sum with the first k sets
-  partial-is : (f : ℕ) → ((s : Sequence) → IsSequence g p s → tableWorth t f (sequenceNumber g p s) ≡ worthIn g p y f s) → (s : Sequence) → IsSequence g p s → (k : ℕ) → k ≤ g .sets → tablePartial t (tableGreatest t (tableWorth t f)) (sequenceNumber g p s) k ≡ leavesWorth g p y s +ℤ sumWhere k (leadsTo g p s) (greatestMove g (worthIn g p y f))
+  partial-is : (f : ℕ) → ((s : Sequence) → IsSequence g p s → tableWorth t f (sequenceNumber g p s) ≡ worthIn g p y f s) → (s : Sequence) → IsSequence g p s → (k : ℕ) → k ≤ g .sets → tablePartial t (tableGreatest t (tableWorth t f)) (sequenceNumber g p s) k ≡ leavesWorth g p y s +ℤ sumWhere k (leadsTo g p s) (greatestWorth g (worthIn g p y f))
   unfolding tablePartial
   partial-is f each s i k l =
       rw (S .at s i)
@@ -137,20 +137,20 @@ module _ (g : Game) (R : GameRules g) (p : Player) (y : RealizationPlan) {sums :
       omega (arith, P .node-holds .at h (o .0), P .node-holds .at k in-sets, first-before g R p h m k in-sets u follows)
 
   -- What the recursion asks of its tables, where no partial sum of a worth leaves an i64.
-  ready-where : GameLimits g → ((f : ℕ) (s : Sequence) (k : ℕ) → k ≤ g .sets → SFits w64 (leavesWorth g p y s +ℤ sumWhere k (leadsTo g p s) (greatestMove g (worthIn g p y f)))) → Ready t (g .nodes)
+  ready-where : GameLimits g → ((f : ℕ) (s : Sequence) (k : ℕ) → k ≤ g .sets → SFits w64 (leavesWorth g p y s +ℤ sumWhere k (leadsTo g p s) (greatestWorth g (worthIn g p y f)))) → Ready t (g .nodes)
   ready-where L fit = record {
     few-nodes = L .nodes;
     sums-long = omega (arith, sequences-are, S .long);
-    next-long = omega (arith, sets-are, P .next-holds .long);
+    next-long = omega (arith, sets-are, P .chains .next-holds .long);
     start-long = omega (arith, sets-are, P .start-holds .long);
     count-long = omega (arith, sets-are, P .count-holds .long);
     node-long = omega (arith, sets-are, P .node-holds .long);
     head-is = λ s b.
         let v : s < sequenceCount g p = omega (arith, sequences-are) in
-        rw sets-are (getD-take (sequenceCount g p) head s 0 v ∙ P .head-holds .at s v ∙ sym (from-like (t .lead) lead (g .sets) lead-like s 0 (omega arith)));
+        rw sets-are (getD-take (sequenceCount g p) head s 0 v ∙ P .chains .head-holds .at s v ∙ sym (from-like (t .lead) lead (g .sets) lead-like s 0 (omega arith)));
     next-is = λ h b.
         let v : h < g .sets = omega (arith, sets-are) in
-        rw (sets-are, sequences-are) (P .next-holds .at h v ∙ sym (next-like (t .lead) lead (g .sets) lead-like (sequenceCount g p) h v));
+        rw (sets-are, sequences-are) (P .chains .next-holds .at h v ∙ sym (next-like (t .lead) lead (g .sets) lead-like (sequenceCount g p) h v));
     some-move = λ h own. let o = is-own h own in omega (arith, P .count-holds .at h (o .0), R .set-moves h (o .0) .0);
     move-in = λ h m own b.
         let o = is-own h own in
@@ -166,5 +166,5 @@ module _ (g : Game) (R : GameRules g) (p : Player) (y : RealizationPlan) {sums :
   }
 
 -- What `worths` requires holds, for what is prepared of a game and sums against the opponent's plan.
-pub tables-ready : (g : Game) → GameRules g → GameLimits g → (q : PlanPair) → Budget g q → (p : Player) {sums : List ℤ} {head next lead start count node : List ℕ} → Prepared g p head next lead start count node → LeafSums g p (q (other p)) sums → Ready (tablesFor (sequenceCount g p) (g .sets) sums head next lead start count node) (g .nodes)
-tables-ready g R L q B p P S = ready-where g R p (q (other p)) P S L (B .partial p)
+pub tables-ready : (g : Game) → GameRules g → GameLimits g → (p : Player) (y : RealizationPlan) → ResponseBudget g p y → {sums : List ℤ} {head next lead start count node : List ℕ} → Prepared g p head next lead start count node → LeafSums g p y sums → Ready (tablesFor (sequenceCount g p) (g .sets) sums head next lead start count node) (g .nodes)
+tables-ready g R L p y B P S = ready-where g R p y P S L (B .partial)

@@ -8,8 +8,3 @@ use Rattle.model.specs.BestResponse.{bestMove}
 -- the best move of set h against y, where the set is p's; else 0
 unfoldable pub ownBestMove : Game → Player → RealizationPlan → ℕ → ℕ
 ownBestMove g p y h = let best = bestMove g p y h in cond (owns g p h) best 0
-
--- to unfold this is to unfold all of this file: for closed computation
-unfoldable pub opened : Unit {0}
-unfolding ownBestMove
-opened = tt

@@ -1,4 +1,3 @@
 pub mod BestMoves
-pub mod Opponents
 pub mod Prepared
 pub mod Values

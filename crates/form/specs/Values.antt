@@ -4,12 +4,12 @@ use mathlib.Core.Path.{_≡_}
 use mathlib.Core.Bool.{true}
 use mathlib.Core.List.{List}
 use lib.ListN.{length}
+use Rattle.algebra.specs.Arrays.{over}
 use Rattle.model.specs.Game.{Game, one, two}
 use Rattle.model.specs.Plan.{PlanPair, pairFits}
 use Rattle.model.specs.Earnings.{valueCount}
 use Rattle.model.specs.BestResponse.{bestCount}
 use Rattle.model.specs.Writing.{entry}
-use Rattle.game.specs.Answers.{over}
 use Rattle.plan.specs.Weights.{planByNumber, pairByNumber, Small}
 use Rattle.form.specs.BestMoves.{ownBestMove}
 use Rattle.form.specs.declared.Values.{Values}
@@ -25,15 +25,10 @@ Evaluated g x y moves1₀ moves2₀ moves1 moves2 r =
     × (moves1 ≡ over (ownBestMove g one (planByNumber g two (entry y))) (g .sets) moves1₀)
     × (moves2 ≡ over (ownBestMove g two (planByNumber g one (entry x))) (g .sets) moves2₀)
 
--- Both players' weights by number, each of 16 bits, of plans that fit.
+-- Both players' weights by number, each within the limit, of plans that fit.
 pub record PairWeights (g : Game) (x y : List ℕ) : Type 0 where
   pub long1 : 4095 ≤ length x
   pub long2 : 4095 ≤ length y
   pub small1 : Small (length x) x
   pub small2 : Small (length y) y
   pub fit : pairFits g (pairByNumber g (entry x) (entry y)) ≡ true
-
--- to unfold this is to unfold the definitions of this file: for closed computation
-unfoldable pub opened : Unit {0}
-unfolding valuesOf
-opened = tt

@@ -2,19 +2,17 @@
 ghost use mathlib.Core.Path.{_≡_};
 ghost use Prim.Native.Nat.{_≤_, _<_};
 ghost use lib.ListN.{length};
+ghost use Rattle.algebra.specs.Arrays.{Holds, over};
 ghost use Rattle.model.specs.Game.{gameOf, playerOf, other};
-ghost use Rattle.model.specs.Sequences.{sequenceCount};
+ghost use Rattle.model.specs.Sequences.{leadingNumber, sequenceCount};
 ghost use Rattle.model.specs.BestResponse.{bestCount};
-ghost use Rattle.model.specs.Writing.{entry};
+ghost use Rattle.model.specs.Writing.{entry, playerField};
 ghost use Rattle.model.specs.Demand1.{GameRules};
-ghost use Rattle.game.specs.Answers.{Holds, over};
-ghost use Rattle.game.specs.Columns.{playerField};
 ghost use Rattle.game.specs.Records.{headerOf};
-ghost use Rattle.plan.specs.Weights.{planByNumber};
+ghost use Rattle.plan.specs.Weights.{planByNumber, Weights};
 ghost use Rattle.gather.specs.Leaves.{PlayerLeaves};
-ghost use Rattle.gather.specs.Sets.{leadNumber, SetsGathered};
+ghost use Rattle.gather.specs.Sets.{SetsGathered};
 ghost use Rattle.form.specs.BestMoves.{ownBestMove};
-ghost use Rattle.form.specs.Opponents.{Opponent};
 ghost use Rattle.form.specs.Prepared.{PlayerChains, Prepared};
 use game::Header;
 
@@ -31,7 +29,7 @@ pub fn prepare(
     head: &mut [usize],
     next: &mut [usize],
 )
-    requires { ⌜ (header ≡ headerOf (now game)) × GameRules (gameOf (now game)) × (player < 2) × (sequences ≡ sequenceCount (gameOf (now game)) (playerOf player)) × Holds (playerField (gameOf (now game))) (gameOf (now game) .sets) (now players) × Holds (leadNumber (gameOf (now game))) (gameOf (now game) .sets) (now leads) × (4095 ≤ length (now lead)) × (4095 ≤ length (now head)) × (4095 ≤ length (now next)) ⌝ }
+    requires { ⌜ (header ≡ headerOf (now game)) × GameRules (gameOf (now game)) × (player < 2) × (sequences ≡ sequenceCount (gameOf (now game)) (playerOf player)) × Holds (playerField (gameOf (now game))) (gameOf (now game) .sets) (now players) × Holds (leadingNumber (gameOf (now game))) (gameOf (now game) .sets) (now leads) × (4095 ≤ length (now lead)) × (4095 ≤ length (now head)) × (4095 ≤ length (now next)) ⌝ }
     ensures { λ _. ⌜ PlayerChains (gameOf (now (game .entry))) (playerOf player) (now (head .exit)) (now (next .exit)) (now (lead .exit)) ⌝ }
 {
     let sets = header.sets;
@@ -60,7 +58,7 @@ pub fn prepared_best(
     node: &[usize],
     moves: &mut [usize],
 ) -> i64
-    requires { ⌜ (header ≡ headerOf (now game)) × GameRules (gameOf (now game)) × (sequences ≡ sequenceCount (gameOf (now game)) (playerOf player)) × PlayerLeaves (gameOf (now game)) (playerOf player) leaves (now own) (now opponent) (now chance) (now payoffs) × Opponent (gameOf (now game)) (playerOf player) (now y) × Prepared (gameOf (now game)) (playerOf player) (now head) (now next) (now lead) (now start) (now count) (now node) × (4095 ≤ length (now moves)) ⌝ }
+    requires { ⌜ (header ≡ headerOf (now game)) × GameRules (gameOf (now game)) × (sequences ≡ sequenceCount (gameOf (now game)) (playerOf player)) × PlayerLeaves (gameOf (now game)) (playerOf player) leaves (now own) (now opponent) (now chance) (now payoffs) × Weights (gameOf (now game)) (other (playerOf player)) (now y) × Prepared (gameOf (now game)) (playerOf player) (now head) (now next) (now lead) (now start) (now count) (now node) × (4095 ≤ length (now moves)) ⌝ }
     ensures { λ r. ⌜ (r ≡ bestCount (gameOf (now (game .entry))) (playerOf player) (planByNumber (gameOf (now (game .entry))) (other (playerOf player)) (entry (now (y .entry))))) × (now (moves .exit) ≡ over (ownBestMove (gameOf (now (game .entry))) (playerOf player) (planByNumber (gameOf (now (game .entry))) (other (playerOf player)) (entry (now (y .entry))))) (gameOf (now (game .entry)) .sets) (now (moves .entry))) ⌝ }
 {
     let sets = header.sets;
@@ -108,7 +106,7 @@ pub fn player_best(
     node: &[usize],
     moves: &mut [usize],
 ) -> i64
-    requires { ⌜ (header ≡ headerOf (now game)) × GameRules (gameOf (now game)) × (player < 2) × (sequences ≡ sequenceCount (gameOf (now game)) (playerOf player)) × PlayerLeaves (gameOf (now game)) (playerOf player) leaves (now own) (now opponent) (now chance) (now payoffs) × Opponent (gameOf (now game)) (playerOf player) (now y) × SetsGathered (gameOf (now game)) (now players) (now count) (now start) (now leads) (now node) × (4095 ≤ length (now moves)) ⌝ }
+    requires { ⌜ (header ≡ headerOf (now game)) × GameRules (gameOf (now game)) × (player < 2) × (sequences ≡ sequenceCount (gameOf (now game)) (playerOf player)) × PlayerLeaves (gameOf (now game)) (playerOf player) leaves (now own) (now opponent) (now chance) (now payoffs) × Weights (gameOf (now game)) (other (playerOf player)) (now y) × SetsGathered (gameOf (now game)) (now players) (now count) (now start) (now leads) (now node) × (4095 ≤ length (now moves)) ⌝ }
     ensures { λ r. ⌜ (r ≡ bestCount (gameOf (now (game .entry))) (playerOf player) (planByNumber (gameOf (now (game .entry))) (other (playerOf player)) (entry (now (y .entry))))) × (now (moves .exit) ≡ over (ownBestMove (gameOf (now (game .entry))) (playerOf player) (planByNumber (gameOf (now (game .entry))) (other (playerOf player)) (entry (now (y .entry))))) (gameOf (now (game .entry)) .sets) (now (moves .entry))) ⌝ }
 {
     let mut lead = [0usize; 4095];

@@ -1,9 +1,10 @@
 -- A player's last own move: who moves at a node that was read, the step from the parent, and the number.
-use Prim.Native.Nat.{ℕ, zero, suc, _+_, _≤_, _<_}
+use Prim.Native.Nat.{ℕ, zero, suc, _≤_, _<_}
 use mathlib.Core.Path.{_≡_, refl, sym, ap, _∙_, subst}
 use mathlib.Core.List.{List, [], _∷_}
 use native.Mathlib.Omega.{arith}
 use lib.Dec.{T}
+use Rattle.algebra.specs.Arrays.{Holds}
 use Rattle.algebra.proofs.Tests.{dec, cond-yes, cond-no}
 use Rattle.algebra.proofs.Counts.{only, only-most, count-bound}
 use Rattle.model.specs.Game.{Game, Player, one, gameOf, samePlayer, playerOf, isDecision, owns, movesBefore}
@@ -16,7 +17,7 @@ use Rattle.game.specs.declared.NodeRecord.{NodeRecord}
 use Rattle.game.specs.declared.LastMove.{LastMove}
 use Rattle.game.specs.declared.LastMove.the-variants.{Empty, Made}
 use Rattle.game.specs.Records.{SetRead, NodeRead}
-use Rattle.game.specs.Answers.{Rooted, Holds}
+use Rattle.game.specs.Answers.{Rooted}
 use Rattle.game.specs.Sets.{firstSequence}
 use Rattle.game.specs.Recall.{lastOf, numberOf, Numbered}
 
@@ -110,7 +111,7 @@ module _ (g : Game) (R : Rooted g) (p : Player) where
 
   -- the number of a set's first sequence is small
   start-small : (h : ℕ) → h < g .sets → firstSequence g h ≤ 1000000
-  unfolding firstSequence movesBefore
+  unfolding firstSequence moveNumber movesBefore
   start-small h l =
       let c : ℕ → ℕ = λ k. only (owns g (g .setPlayer h) k) (g .setMoves k) in
       omega (arith, R .few-sets, count-bound h 64 c (λ k b. omega (arith, only-most (owns g (g .setPlayer h) k) (g .setMoves k), R .set-moves k (omega arith))))
@@ -126,7 +127,7 @@ module _ (g : Game) (R : Rooted g) (p : Player) where
     start-number : (a : LastMove) → Owned g p a → numberOf a starts ≡ lastNumber g p a
     unfolding moveNumber firstSequence
     start-number Empty o = refl
-    start-number (Made set place) o = ap (λ (x : ℕ). x + place) (S .at set (o .0)) ∙ rw (owner g p set (o .2))
+    start-number (Made set place) o = omega (arith, S .at set (o .0), ap (λ (r : Player). movesBefore g r set) (owner g p set (o .2)))
 
     -- The last own move to node n.
     module _ (n : ℕ) (l : n < g .nodes) {a : LastMove} (e : a ≡ lastOf (ownSequence g p n)) where

@@ -7,7 +7,8 @@ ghost use Rattle.model.specs.Sequences.{ownSequence, firstNode};
 ghost use Rattle.model.specs.Table.{ownNumber};
 ghost use Rattle.model.specs.GameChecks.{perfectRecall};
 ghost use Rattle.algebra.specs.Bounded.{allTo};
-ghost use Rattle.game.specs.Answers.{checkedOf, Framed, Rooted, Holds, over};
+ghost use Rattle.algebra.specs.Arrays.{Holds, over};
+ghost use Rattle.game.specs.Answers.{checkedOf, Framed, Rooted};
 ghost use Rattle.game.specs.Sets.{firstSequence};
 ghost use Rattle.game.specs.Recall.{lastOf, Numbered, numberOf, recallTest};
 use super::Checked;
@@ -116,9 +117,9 @@ pub fn perfect_recall(bytes: &[u8], records: usize, nodes: usize, sets: usize) -
     requires { ⌜ Framed (now bytes) records nodes × Rooted (gameOf (now bytes)) × (sets ≡ gameOf (now bytes) .sets) ⌝ }
     ensures { λ r. ⌜ r ≡ checkedOf (perfectRecall (gameOf (now (bytes .entry)))) ⌝ }
 {
-    let mut starts = [0u64; 4095];
-    let mut first = [0u64; 4095];
-    let mut own = [0u64; 4095];
+    let mut starts = [0u64; NodeRecord::NODES];
+    let mut first = [0u64; NodeRecord::NODES];
+    let mut own = [0u64; NodeRecord::NODES];
     sets::first_sequences(bytes, sets, &mut starts);
     sets::first_nodes(bytes, records, nodes, sets, &mut first);
     let one = player_recalls(bytes, records, nodes, 0, &starts, &first, &mut own);

@@ -11,13 +11,18 @@ use Rattle.model.specs.Table.{ownNumber}
 use Rattle.model.specs.Demand1.{GameRules}
 use Rattle.model.specs.Writing.{entry}
 use Rattle.model.proofs.Numbers.{own-number-below}
-use Rattle.gather.specs.Leaves.{leavesOf, leafOf, Column, Gathered, PlayerLeaves, ofPlayer}
+use Rattle.gather.specs.Leaves.{leavesOf, leafOf, Column, Gathered, PlayerLeaves}
 use Rattle.gather.proofs.Gathering.{all-few, Gathering, gathered-all}
 use Rattle.gather.proofs.LeafSums.{leaf-in, column-is}
 
 -- a slice that every leaf was placed in is a column
 pub column-all : (g : Game) {A : Type 0} (f : ℕ → A) → g .nodes ≤ 4095 → (n : ℕ) (before after : List A) → Gathering g f n before after → n ≡ g .nodes → 4095 ≤ length before → Column g f after
 column-all g f few n before after h e b = column-is g f before after (gathered-all g f n before after h e) (omega (arith, all-few g))
+
+-- what is p's, of what player 1 and player 2 have
+abbrev pub ofPlayer : {A : Type 0} → Player → (a b : A) → A
+ofPlayer one a b = a
+ofPlayer two a b = b
 
 -- each player's part of them
 pub player-leaves : (g : Game) (p : Player) {count : ℕ} {first second chance : List ℕ} {payoffs1 payoffs2 : List ℤ} → Gathered g count first second chance payoffs1 payoffs2 → PlayerLeaves g p count (ofPlayer p first second) (ofPlayer (other p) first second) chance (ofPlayer p payoffs1 payoffs2)

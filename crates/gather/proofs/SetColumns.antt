@@ -1,22 +1,20 @@
 -- What is gathered of each set is what the game has.
 use Prim.Native.Nat.{ℕ, _≤_, _<_}
-use mathlib.Core.Path.{_≡_, refl, sym, ap, _∙_}
-use mathlib.Core.List.{List, _++_}
+use mathlib.Core.Path.{_≡_, refl, sym, _∙_}
+use mathlib.Core.List.{List}
 use native.Mathlib.Omega.{arith}
 use lib.Dec.{eqb, eqb→eq}
-use lib.ListN.{length, drop}
+use lib.ListN.{length}
+use Rattle.algebra.specs.Arrays.{Holds, over}
 use Rattle.algebra.proofs.Tests.{cond-yes, cond-no, eqb-make}
-use Rattle.algebra.proofs.Lists.{listTo-cong}
+use Rattle.algebra.proofs.Fillings.{over-cong, filled}
 use Rattle.model.specs.Game.{Game, Player, one, two, playerBit}
-use Rattle.model.specs.Sequences.{firstNode}
+use Rattle.model.specs.Sequences.{firstNode, leadingNumber}
 use Rattle.model.specs.Table.{ownNumber}
-use Rattle.model.specs.Writing.{entry}
+use Rattle.model.specs.Writing.{entry, playerField}
 use Rattle.model.specs.Demand1.{GameRules}
-use Rattle.game.specs.Answers.{Holds, over}
-use Rattle.game.specs.Columns.{playerField}
 use Rattle.game.proofs.Leading.{first-found, leading-is}
-use Rattle.game.proofs.Recalls.{filled}
-use Rattle.gather.specs.Sets.{leadNumber, leadStored, ownLead}
+use Rattle.gather.specs.Sets.{leadStored, ownLead}
 
 module _ (players node own1 own2 : List ℕ) (h : ℕ) where
   -- the leading sequence of a set of player 1's
@@ -40,14 +38,9 @@ module _ (players leads : List ℕ) (player none h : ℕ) where
   unfolding ownLead
   own-not e = sym (cond-no (eqb (entry players h) player) (entry leads h) none (λ t. e (eqb→eq (entry players h) player t)))
 
--- an array filled with the same numbers
-pub over-same : (f h : ℕ → ℕ) (n : ℕ) (l : List ℕ) → ((i : ℕ) → i < n → f i ≡ h i) → over f n l ≡ over h n l
-unfolding over
-over-same f h n l e = ap (λ (a : List ℕ). a ++ drop n l) (listTo-cong n f h e)
-
 -- a slice filled from one that holds f holds f
 pub copied-holds : (f : ℕ → ℕ) (n count : ℕ) (from before after : List ℕ) → Holds f n from → count ≡ n → n ≤ length before → after ≡ over (entry from) count before → Holds f n after
-copied-holds f n count from before after H e b q = filled before (q ∙ rw e (over-same (entry from) f n before (H .at))) b
+copied-holds f n count from before after H e b q = filled before (q ∙ rw e (over-cong (entry from) f n before (H .at))) b
 
 -- First nodes, and each player's own numbers.
 module _ (g : Game) (R : GameRules g) {node own1 own2 : List ℕ} (N : Holds (firstNode g) (g .sets) node) (O1 : Holds (ownNumber g one) (g .nodes) own1) (O2 : Holds (ownNumber g two) (g .nodes) own2) where
@@ -59,14 +52,14 @@ module _ (g : Game) (R : GameRules g) {node own1 own2 : List ℕ} (N : Holds (fi
 
   module _ {players : List ℕ} (P : Holds (playerField g) (g .sets) players) where
     -- what the lists say leads to a set does
-    lead-is : (h : ℕ) → h < g .sets → leadStored players node own1 own2 h ≡ leadNumber g h
-    unfolding leadNumber playerField
+    lead-is : (h : ℕ) → h < g .sets → leadStored players node own1 own2 h ≡ leadingNumber g h
+    unfolding playerField
     lead-is h l = go (g .setPlayer h) refl (P .at h l)
       where
-        go : (p : Player) → p ≡ g .setPlayer h → entry players h ≡ playerBit p → leadStored players node own1 own2 h ≡ leadNumber g h
+        go : (p : Player) → p ≡ g .setPlayer h → entry players h ≡ playerBit p → leadStored players node own1 own2 h ≡ leadingNumber g h
         go one e q = sym (lead-first players node own1 own2 h (entry own1 (entry node h)) q refl) ∙ leading-is g R N h l O1 e
         go two e q = sym (lead-second players node own1 own2 h (entry own2 (entry node h)) (λ z. omega arith) refl) ∙ leading-is g R N h l O2 e
 
     -- so a slice that is filled with it holds what leads to each set
-    pub leads-held : (sets : ℕ) (before after : List ℕ) → sets ≡ g .sets → g .sets ≤ length before → after ≡ over (leadStored players node own1 own2) sets before → Holds (leadNumber g) (g .sets) after
-    leads-held sets before after e b q = filled before (q ∙ rw e (over-same (leadStored players node own1 own2) (leadNumber g) (g .sets) before lead-is)) b
+    pub leads-held : (sets : ℕ) (before after : List ℕ) → sets ≡ g .sets → g .sets ≤ length before → after ≡ over (leadStored players node own1 own2) sets before → Holds (leadingNumber g) (g .sets) after
+    leads-held sets before after e b q = filled before (q ∙ rw e (over-cong (leadStored players node own1 own2) (leadingNumber g) (g .sets) before lead-is)) b

@@ -48,8 +48,3 @@ module _ (g : Game) where
     pub opponent-is : Column (ownNumber g (other p)) opponent
     pub chance-is : Column (g .weight) chance
     pub payoffs-is : Column (g .payoff p) payoffs
-
--- what is p's, of what player 1 and player 2 have
-abbrev pub ofPlayer : {A : Type 0} → Player → (a b : A) → A
-ofPlayer one a b = a
-ofPlayer two a b = b

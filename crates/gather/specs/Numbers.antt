@@ -1,9 +1,9 @@
 -- The numbers of own sequences.
 use Prim.Native.Nat.{ℕ}
 use mathlib.Core.List.{List}
+use Rattle.algebra.specs.Arrays.{Holds}
 use Rattle.model.specs.Game.{Game, one, two}
 use Rattle.model.specs.Table.{ownNumber}
-use Rattle.game.specs.Answers.{Holds}
 use Rattle.game.specs.Sets.{firstSequence}
 
 -- They stand in three slices: by set that of its first sequence, by node those of player 1's and player 2's own sequences to it.

@@ -3,18 +3,13 @@ use Prim.Native.Nat.{ℕ}
 use mathlib.Core.Bool.{cond}
 use mathlib.Core.List.{List}
 use lib.Dec.{eqb}
+use Rattle.algebra.specs.Arrays.{Holds}
 use Rattle.model.specs.Game.{Game}
-use Rattle.model.specs.Sequences.{firstNode, leading, sequenceNumber}
-use Rattle.model.specs.Writing.{entry}
-use Rattle.game.specs.Answers.{Holds}
-use Rattle.game.specs.Columns.{playerField}
+use Rattle.model.specs.Sequences.{firstNode, leadingNumber}
+use Rattle.model.specs.Writing.{entry, playerField}
 use Rattle.game.specs.Sets.{firstSequence}
 
--- the number of the sequence that leads to set h, among those of the set's player
-unfoldable pub leadNumber : Game → ℕ → ℕ
-leadNumber g h = sequenceNumber g (g .setPlayer h) (leading g h)
-
--- as the lists give it: the own number of the set's player at the set's first node
+-- the number of the sequence that leads to set h as the lists give it: the own number of the set's player at the set's first node
 unfoldable pub leadStored : (players node own1 own2 : List ℕ) → ℕ → ℕ
 leadStored players node own1 own2 h =
     let n = entry node h in
@@ -29,10 +24,5 @@ pub record SetsGathered (g : Game) (players count start leads node : List ℕ) :
   pub players-hold : Holds (playerField g) (g .sets) players
   pub count-holds : Holds (g .setMoves) (g .sets) count
   pub start-holds : Holds (firstSequence g) (g .sets) start
-  pub leads-hold : Holds (leadNumber g) (g .sets) leads
+  pub leads-hold : Holds (leadingNumber g) (g .sets) leads
   pub node-holds : Holds (firstNode g) (g .sets) node
-
--- to unfold this is to unfold the definitions of this file: for closed computation
-unfoldable pub opened : Unit {0}
-unfolding leadNumber leadStored ownLead
-opened = tt

@@ -2,11 +2,10 @@
 ghost use mathlib.Core.Path.{_≡_};
 ghost use Prim.Native.Nat.{ℕ, _≤_, _<_};
 ghost use lib.ListN.{length};
+ghost use Rattle.algebra.specs.Arrays.{over};
 ghost use Rattle.model.specs.Game.{gameOf};
-ghost use Rattle.model.specs.Writing.{entry};
+ghost use Rattle.model.specs.Writing.{entry, playerField};
 ghost use Rattle.model.specs.Demand1.{GameRules};
-ghost use Rattle.game.specs.Answers.{over};
-ghost use Rattle.game.specs.Columns.{playerField};
 ghost use Rattle.game.specs.Records.{headerOf};
 ghost use Rattle.gather.specs.Numbers.{OwnNumbers};
 ghost use Rattle.gather.specs.Sets.{leadStored, ownLead, SetsGathered};

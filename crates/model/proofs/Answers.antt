@@ -25,7 +25,7 @@ use Rattle.model.specs.Writing.{planBytes}
 use Rattle.model.specs.Report as Report
 use Rattle.model.specs.Report.{ascii, printed}
 use Rattle.model.specs.Starred as Starred
-use Rattle.model.specs.Starred.{decision, chance, leaf, gameFile, study, planF, forgetful, said, _over_, row, fitting, Case, _is_, AllHold, end, _then_, starred}
+use Rattle.model.specs.Starred.{decision, chance, leaf, gameFile, study, planF, absentMinded, outcome, _over_, row, fitting, Case, _is_, AllHold, end, _then_, starred}
 
 -- every starred case holds
 pub starred-hold : AllHold starred
@@ -38,7 +38,7 @@ unfolding Bounded.opened Bits.opened Game.opened Sequences.opened Refusals.opene
 listing-holds = refl
 
 -- "as `refusal 13`"
-pub refusal-holds : printed forgetful [] ≡ ascii "refusal 13\n"
+pub refusal-holds : printed absentMinded [] ≡ ascii "refusal 13\n"
 unfolding Bounded.opened Bits.opened Game.opened Sequences.opened Refusals.opened GameChecks.opened Plan.opened PlanChecks.opened Earnings.opened BestResponse.opened Verdict.opened Writing.opened Report.opened Starred.opened
 refusal-holds = refl
 
@@ -76,12 +76,12 @@ cautious = planBytes 1 1 (0 ∷ 0 ∷ 0 ∷ 1 ∷ [])
 -- what the definitions give for them
 abbrev worked : List Case
 worked =
-    (said study doubled is fitting (pos 12 over 4) (pos 12 over 4) (pos 7 over 2) (pos 6 over 2) (deviation one (pos 2) ((0, 0) ∷ (2, 0) ∷ [])))
-    ∷ (said study leaning is fitting (pos 12 over 4) (pos 12 over 4) (pos 18 over 4) (pos 3 over 1) (deviation one (pos 6) ((0, 0) ∷ (2, 1) ∷ [])))
-    ∷ (said study second is fitting (pos 6 over 1) (pos 1 over 1) (pos 6 over 1) (pos 3 over 1) (deviation two (pos 2) ((1, 0) ∷ [])))
+    (outcome study doubled is fitting (pos 12 over 4) (pos 12 over 4) (pos 7 over 2) (pos 6 over 2) (deviation one (pos 2) ((0, 0) ∷ (2, 0) ∷ [])))
+    ∷ (outcome study leaning is fitting (pos 12 over 4) (pos 12 over 4) (pos 18 over 4) (pos 3 over 1) (deviation one (pos 6) ((0, 0) ∷ (2, 1) ∷ [])))
+    ∷ (outcome study second is fitting (pos 6 over 1) (pos 1 over 1) (pos 6 over 1) (pos 3 over 1) (deviation two (pos 2) ((1, 0) ∷ [])))
     ∷ (gameRefusal drawn is 0)
     ∷ (payoffTable (gameOf drawn) is row 0 0 (pos 9) (pos 3) ∷ [])
-    ∷ (said backward cautious is fitting (pos 1 over 1) (pos 0 over 1) (pos 5 over 1) (pos 0 over 1) (deviation one (pos 4) ((0, 1) ∷ (1, 0) ∷ [])))
+    ∷ (outcome backward cautious is fitting (pos 1 over 1) (pos 0 over 1) (pos 5 over 1) (pos 0 over 1) (deviation one (pos 4) ((0, 1) ∷ (1, 0) ∷ [])))
     ∷ []
 
 worked-hold : AllHold worked

@@ -1,5 +1,5 @@
 -- The best response: a pure strategy that takes the lowest-numbered best move in every set, and earns the best value.
-use Prim.Native.Nat.{ℕ, zero, suc, pred, _≤_, _<_}
+use Prim.Native.Nat.{ℕ, zero, suc, pred, _*_, _≤_, _<_}
 use mathlib.Core.Path.{_≡_, refl, sym, ap, _∙_, subst}
 use mathlib.Core.Bool.{Bool, true, false, cond}
 use mathlib.Core.List.{List, [], _∷_, _++_, map, append-assoc, append-nil}
@@ -7,24 +7,25 @@ use native.Mathlib.Omega.{arith}
 use native.Mathlib.Decide.{ℕ-discrete}
 use lib.Dec.{T, eqb, eqb→eq, eqb-refl, not-T}
 use mir.Facts.{and-yes}
+use native.Mathlib.Nat as NatL
 use lib.IntN.{ℤ, pos, _*ℤ_, zero-*ℤ}
 use lib.Signed.{_≤ℤ_, _<ℤ_, leZ, leZ-yes, ltZ, ltZ-yes, ltZ-no, ≤ℤ-refl}
 use Rattle.algebra.specs.Bounded.{joinTo}
 use Rattle.algebra.proofs.Tests.{dec, cond-yes, cond-no}
 use Rattle.algebra.proofs.Searches.{firstTo-found, firstTo-before, maxUpTo-above, maxUpTo-met}
-use Rattle.algebra.proofs.Integers.{≤ℤ-antisym, scale-one}
+use Rattle.algebra.proofs.Integers.{≤ℤ-antisym, scale-mono, scale-scale, scale-one}
 use Rattle.algebra.proofs.Counts.{only}
 use Rattle.algebra.proofs.Lists.{joinTo-cong, map-joinTo}
 use Rattle.model.specs.Game.{Game, Player, owns}
 use Rattle.model.specs.Sequences.{Move, extended, leading}
 use Rattle.model.specs.Plan.{RealizationPlan}
-use Rattle.model.specs.Earnings.{consistent, listed, IsPure, setsOf, pureCount}
-use Rattle.model.specs.BestResponse.{worth, setWorth, bestCount, bestMove, bestAt, bestResponse}
+use Rattle.model.specs.Earnings.{AtMost, PureStrategy, MixedStrategy, consistent, listed, totalWeight, IsPure, IsMixed, setsOf, pureCount, againstBase, pureEarnings, mixedCount, mixedEarnings}
+use Rattle.model.specs.BestResponse.{worth, setWorth, bestCount, bestValue, bestMove, bestAt, bestResponse}
 use Rattle.model.specs.Demand1.{GameRules}
 use Rattle.model.proofs.Sequences.{consistent-extended}
 use Rattle.model.proofs.Worths.{worth-set}
 use Rattle.model.proofs.Duality.{priceOfMove, priceOfBest, plan-attains}
-use Rattle.model.proofs.Strategies.{purePlan, pure-fits, pure-count}
+use Rattle.model.proofs.Strategies.{purePlan, pure-fits, pure-count, pure-at-most, mixed-at-most}
 
 -- an integer that is not at least another is below it
 not-above : (a b : ℤ) → ¬ T (leZ a b) → b <ℤ a
@@ -33,6 +34,11 @@ not-above a b n =
       | yes t ↦ ltZ-yes t
       | no t ↦ let e : a ≤ℤ b = ltZ-no (not-T (ltZ b a) t) in absurd (n (e .le))
     ]
+
+-- a mixture that counts at most t times as much is at most as much
+mixture-at-most : (t E : ℕ) (m a : ℤ) → m ≤ℤ (pos t *ℤ a) → (pos E *ℤ m) ≤ℤ (pos (t * E) *ℤ a)
+mixture-at-most t E m a h =
+    subst (λ (z : ℤ). (pos E *ℤ m) ≤ℤ z) (scale-scale E t a ∙ ap (λ (k : ℕ). pos k *ℤ a) (NatL.mul-comm E t)) (scale-mono E h)
 
 module _ (g : Game) (p : Player) (y : RealizationPlan) where
   abbrev part : ℕ → List Move
@@ -131,3 +137,18 @@ module _ (g : Game) (p : Player) (y : RealizationPlan) where
         go : (h m : ℕ) → h < g .sets → T (owns g p h) → (b : Bool) → (T b → T (consistent (listed (bestResponse g p y)) (extended (leading g h) h m))) → pos (only b 1) *ℤ worth g p y (extended (leading g h) h m) ≡ pos (only b 1) *ℤ setWorth g p y h
         go h m l o true t = ap (λ (z : ℤ). pos 1 *ℤ z) (ap (λ (k : ℕ). worth g p y (extended (leading g h) h k)) (sym (taken h m l o (t tt))) ∙ best-found h (R .set-moves h l .0) .1)
         go h m l o false t = zero-*ℤ (worth g p y (extended (leading g h) h m)) ∙ sym (zero-*ℤ (setWorth g p y h))
+
+    -- no pure strategy earns more than the best value
+    pub pure-most : (σ : PureStrategy) → IsPure g p σ → AtMost (pureEarnings g p y σ) (bestValue g p y)
+    unfolding pureEarnings bestValue
+    pure-most σ legal = scale-mono (againstBase g y) (pure-at-most g R p y σ legal)
+
+    -- and no mixed one
+    pub mixed-most : (μ : MixedStrategy) → IsMixed g p μ → AtMost (mixedEarnings g p y μ) (bestValue g p y)
+    unfolding mixedEarnings bestValue IsMixed
+    mixed-most μ legal = mixture-at-most (totalWeight μ) (againstBase g y) (mixedCount g p y μ) (bestCount g p y) (mixed-at-most g R p y μ (legal .0))
+
+    -- the best response earns exactly it
+    pub response-attains : pureEarnings g p y (listed (bestResponse g p y)) ≡ bestValue g p y
+    unfolding pureEarnings bestValue
+    response-attains = ap (λ (z : ℤ). record { count = z; base = againstBase g y }) response-earns

@@ -6,14 +6,14 @@ use mathlib.Core.List.{List}
 use native.Mathlib.Omega.{arith}
 use native.Mathlib.Nat as NatL
 use native.Mathlib.Decide.{decLt}
-use lib.Dec.{ltb, ltb→lt, lt→ltb}
+use lib.Dec.{T, ltb, ltb→lt, lt→ltb}
 use lib.ListN.{length, getD, drop}
 use lib.Seq.{getD-drop}
 use lib.IntN.{ℤ, pos, negsuc, natAbs}
-use lib.Signed.{mag}
 use Rattle.algebra.proofs.Tests.{cond-yes, cond-no}
 use Rattle.algebra.proofs.Lists.{length-listTo, listTo-at}
 use Rattle.model.specs.Bits.{numeral, bit, field, fields, bits, packed, signed, twosComplement}
+use Rattle.model.specs.Writing.{fitsSigned}
 
 -- equal digits, from two places on
 pub numeral-cong : (d e : ℕ → ℕ) (a b width : ℕ) → ((i : ℕ) → i < width → d (a + i) ≡ e (b + i)) → numeral d a width ≡ numeral e b width
@@ -88,11 +88,6 @@ pub field-fits : (bytes : List ℕ) (at width : ℕ) → field bytes at width < 
 unfolding field
 field-fits bytes at width = numeral-fits (bit bytes) (bit-small bytes) at width
 
--- equal bits, from two places on
-pub field-cong : (a b : List ℕ) (i j width : ℕ) → ((k : ℕ) → k < width → bit a (i + k) ≡ bit b (j + k)) → field a i width ≡ field b j width
-unfolding field
-field-cong a b i j width h = numeral-cong (bit a) (bit b) i j width h
-
 -- a field is 0 exactly where its bits are
 pub field-zero : (bytes : List ℕ) (at width : ℕ) → (field bytes at width ≡ 0) ↔ ((i : ℕ) → at ≤ i → i < at + width → bit bytes i ≡ 0)
 unfolding field
@@ -158,14 +153,15 @@ pub signed-abs : (width n : ℕ) → n < 2 ^ width → 2 * natAbs (signed width 
 signed-abs width n fits = signed-cases width n (λ z. 2 * natAbs z ≤ 2 ^ width) fits (λ l. omega arith) (λ l. omega arith)
 
 -- a signed number is in its range
-pub signed-fits : (width n : ℕ) → n < 2 ^ width → 2 * mag (signed width n) < 2 ^ width
-signed-fits width n fits = signed-cases width n (λ z. 2 * mag z < 2 ^ width) fits (λ l. l) (λ l. omega arith)
+pub signed-fits : (width n : ℕ) → n < 2 ^ width → T (fitsSigned width (signed width n))
+unfolding fitsSigned
+signed-fits width n fits = signed-cases width n (λ z. T (fitsSigned width z)) fits (λ l. lt→ltb (2 * n) (2 ^ width) l) (λ l. lt→ltb (2 * (2 ^ width - suc n)) (2 ^ width) (omega arith))
 
 -- two's complement of what is in range fits its width
-pub twos-fits : (width : ℕ) (z : ℤ) → 2 * mag z < 2 ^ width → twosComplement width z < 2 ^ width
-unfolding twosComplement
-twos-fits width (pos n) l = omega arith
-twos-fits width (negsuc n) l = omega arith
+pub twos-fits : (width : ℕ) (z : ℤ) → T (fitsSigned width z) → twosComplement width z < 2 ^ width
+unfolding twosComplement fitsSigned
+twos-fits width (pos n) t = omega (arith, ltb→lt (2 * n) (2 ^ width) t)
+twos-fits width (negsuc n) t = omega (arith, ltb→lt (2 * n) (2 ^ width) t)
 
 -- a number, read as signed and written again
 pub twos-signed : (width n : ℕ) → n < 2 ^ width → twosComplement width (signed width n) ≡ n
@@ -173,7 +169,11 @@ unfolding twosComplement
 twos-signed width n fits = signed-cases width n (λ z. twosComplement width z ≡ n) fits (λ l. refl) (λ l. omega arith)
 
 -- an integer in range, written and read again; a signed width is at least 1
-pub signed-twos : (width : ℕ) (z : ℤ) → 2 * mag z < 2 ^ suc width → signed (suc width) (twosComplement (suc width) z) ≡ z
-unfolding twosComplement
-signed-twos width (pos n) l = signed-cases (suc width) n (λ z. z ≡ pos n) (omega arith) (λ h. refl) (λ h. absurd (omega arith))
-signed-twos width (negsuc n) l = signed-cases (suc width) (2 ^ suc width - suc n) (λ z. z ≡ negsuc n) (omega arith) (λ h. absurd (omega arith)) (λ h. ap negsuc (omega arith))
+pub signed-twos : (width : ℕ) (z : ℤ) → T (fitsSigned (suc width) z) → signed (suc width) (twosComplement (suc width) z) ≡ z
+unfolding twosComplement fitsSigned
+signed-twos width (pos n) t =
+    let l = ltb→lt (2 * n) (2 ^ suc width) t in
+    signed-cases (suc width) n (λ z. z ≡ pos n) (omega arith) (λ h. refl) (λ h. absurd (omega arith))
+signed-twos width (negsuc n) t =
+    let l = ltb→lt (2 * n) (2 ^ suc width) t in
+    signed-cases (suc width) (2 ^ suc width - suc n) (λ z. z ≡ negsuc n) (omega arith) (λ h. absurd (omega arith)) (λ h. ap negsuc (omega arith))

@@ -3,7 +3,7 @@
 use Prim.Native.Nat.{ℕ, _+_, _*_, _≤_, _<_}
 use mathlib.Core.Path.{_≡_, sym, ap, _∙_, subst}
 use mathlib.Core.Bool.{Bool, true, false, _&&_}
-use mathlib.Core.List.{List, [], _∷_}
+use mathlib.Core.List.{List}
 use native.Mathlib.Omega.{arith}
 use native.Mathlib.Nat as NatL
 use lib.IntN.{ℤ, pos, _+ℤ_, _*ℤ_, natAbs}
@@ -11,15 +11,16 @@ use mir.Syntax.{w64}
 use mir.Val.{SFits}
 use Rattle.algebra.specs.Bounded.{countTo, sumWhere}
 use Rattle.algebra.proofs.Ranges.{abs-sub, abs-scale, abs-where, sfits-abs}
-use Rattle.algebra.proofs.Counts.{only, only-le, only-most, only-scale, count-le, count-less, count-bound, count-scale, where-is}
+use Rattle.algebra.proofs.Counts.{only, only-le, only-most, only-scale, count-le, count-less, count-bound, count-scale}
 use Rattle.model.specs.Bits.{field}
 use Rattle.model.specs.Game.{Game, gameOf, Player, one, two, other, isLeaf, payoffAt, nodeAt}
-use Rattle.model.specs.Sequences.{Move, Sequence, byLastMove, same, ownSequence}
-use Rattle.model.specs.Plan.{RealizationPlan, PlanPair, sequenceWeight, weightAt, planPairOf, weightPlace, weightBit}
-use Rattle.model.specs.Table.{standsAt, weighedPayoff}
+use Rattle.model.specs.Sequences.{Sequence, same, ownSequence}
+use Rattle.model.specs.Plan.{RealizationPlan, PlanPair, sequenceWeight, weightAt, planPairOf}
+use Rattle.model.specs.Table.{standsAt, weightedPayoff}
 use Rattle.model.specs.Earnings.{PureStrategy, listed, consistent, IsPure, leafTerm, pureCount, againstBase, valueBase, valueTerm, valueCount}
-use Rattle.model.specs.BestResponse.{leadsTo, greatestMove, leavesWorth, worthIn, bestCount, bestResponse}
+use Rattle.model.specs.BestResponse.{leadsTo, greatestWorth, leavesWorth, worthIn, bestCount, bestResponse}
 use Rattle.model.specs.Verdict.{scaledBest, gain}
+use Rattle.model.specs.Budget.{weightLimit}
 use Rattle.model.specs.Demand1.{GameRules}
 use Rattle.model.proofs.Bits.{field-fits, signed-abs}
 use Rattle.model.proofs.Duality.{Fits}
@@ -27,7 +28,7 @@ use Rattle.model.proofs.Strategies.{purePlan, pure-fits, pure-prefix}
 use Rattle.model.proofs.BestResponses.{response-pure, response-earns}
 use Rattle.model.proofs.Earnings.{bases-agree, own-prefix}
 use Rattle.model.proofs.Flow.{mass, flow}
-use Rattle.model.proofs.WorthBounds.{leafSize, leafSizes, worth-bound, partial-bound, leaves-bound}
+use Rattle.model.proofs.WorthBounds.{leafSize, leafSizes, partial-bound, leaves-bound}
 
 -- what the widths of a game's fields allow
 pub record GameLimits (g : Game) : Type 0 where
@@ -36,10 +37,9 @@ pub record GameLimits (g : Game) : Type 0 where
   pub weights : (n : ℕ) → g .weight n ≤ 4095
   pub payoffs : (p : Player) (n : ℕ) → natAbs (g .payoff p n) ≤ 32768
 
--- a denominator and weights of 16 bits
+-- a denominator within what contracts allow
 pub record PlanLimits (x : RealizationPlan) : Type 0 where
-  pub denominator : x .denominator ≤ 65535
-  pub weights : (h m : ℕ) → x .moveWeight h m ≤ 65535
+  pub denominator : x .denominator ≤ weightLimit
 
 -- every game file keeps them
 pub game-limits : (bytes : List ℕ) → GameLimits (gameOf bytes)
@@ -54,12 +54,9 @@ game-limits bytes = record {
 -- and every plan file
 pub plan-limits : (g : Game) (bytes : List ℕ) (p : Player) → PlanLimits (planPairOf g bytes p)
 unfolding planPairOf
-plan-limits g bytes p = record {
-  denominator = go p;
-  weights = λ h m. omega (arith, field-fits bytes (weightBit g (weightPlace g p h m)) 12);
-}
+plan-limits g bytes p = record { denominator = go p }
   where
-    go : (p : Player) → planPairOf g bytes p .denominator ≤ 65535
+    go : (p : Player) → planPairOf g bytes p .denominator ≤ weightLimit
     go one = omega (arith, field-fits bytes 4 12)
     go two = omega (arith, field-fits bytes 16 12)
 
@@ -91,7 +88,7 @@ module _ (g : Game) (R : GameRules g) (L : GameLimits g) (p : Player) (y : Reali
         go two = sym (NatL.mul-assoc (g .weight n) (weightAt g y one n) (weightAt g x two n)) ∙ NatL.mul-comm (g .weight n * weightAt g y one n) (weightAt g x two n)
 
     -- the root's
-    root-is : g .rootWeight * (paired p x y one .denominator * paired p x y two .denominator) ≡ x .denominator * againstBase g p y
+    root-is : g .rootWeight * (paired p x y one .denominator * paired p x y two .denominator) ≡ x .denominator * againstBase g y
     unfolding againstBase
     root-is = go p
       where
@@ -111,81 +108,90 @@ module _ (g : Game) (R : GameRules g) (L : GameLimits g) (p : Player) (y : Reali
         (only-le (isLeaf g n) _ _ (λ t. omega (arith, a, NatL.mul-le-mul-right (v * w) (L .payoffs p n), mass-is n)))
 
     -- every prefix of what a plan that fits earns
-    pub earned-bound : (k : ℕ) → k ≤ g .nodes → natAbs (sumWhere k (isLeaf g) (λ n. pos (weightAt g x p n) *ℤ leafTerm g p y n)) ≤ 32768 * (x .denominator * againstBase g p y)
+    pub earned-bound : (k : ℕ) → k ≤ g .nodes → natAbs (sumWhere k (isLeaf g) (λ n. pos (weightAt g x p n) *ℤ leafTerm g p y n)) ≤ 32768 * (x .denominator * againstBase g y)
     unfolding W
     earned-bound k l =
         let N = g .nodes in
         let f : ℕ → ℤ = λ n. pos (weightAt g x p n) *ℤ leafTerm g p y n in
         let a = abs-where k (isLeaf g) f in
-        let b = where-is k (isLeaf g) (λ n. natAbs (f n)) in
         let c = count-less N k (λ n. only (isLeaf g n) (natAbs (f n))) l in
         let d = count-le N (λ n. only (isLeaf g n) (natAbs (f n))) (λ n. 32768 * only (isLeaf g n) (W n)) (λ n v. term-bound n) in
-        let e : countTo N (λ n. 32768 * only (isLeaf g n) (W n)) ≡ 32768 * (x .denominator * againstBase g p y) =
+        let e : countTo N (λ n. 32768 * only (isLeaf g n) (W n)) ≡ 32768 * (x .denominator * againstBase g y) =
         sym (count-scale N 32768 (λ n. only (isLeaf g n) (W n))) ∙ ap (λ (k : ℕ). 32768 * k) (flow g R (paired p x y) (paired-fits g p x y F G) ∙ root-is) in
-        omega (arith, a, b, c, d, e)
+        omega (arith, a, c, d, e)
 
   -- every prefix of what a pure strategy earns
-  pub pure-bound : (σ : PureStrategy) → IsPure g p σ → (k : ℕ) → k ≤ g .nodes → natAbs (sumWhere k (λ n. isLeaf g n && consistent σ (ownSequence g p n)) (leafTerm g p y)) ≤ 32768 * againstBase g p y
+  pub pure-bound : (σ : PureStrategy) → IsPure g p σ → (k : ℕ) → k ≤ g .nodes → natAbs (sumWhere k (λ n. isLeaf g n && consistent σ (ownSequence g p n)) (leafTerm g p y)) ≤ 32768 * againstBase g y
   unfolding purePlan
   pure-bound σ legal k l =
-      let b = subst (λ (z : ℤ). natAbs z ≤ 32768 * (1 * againstBase g p y)) (sym (pure-prefix g R p y σ k l)) (earned-bound (purePlan g σ) (pure-fits g R p σ legal) k l) in
+      let b = subst (λ (z : ℤ). natAbs z ≤ 32768 * (1 * againstBase g y)) (sym (pure-prefix g R p y σ k l)) (earned-bound (purePlan g σ) (pure-fits g R p σ legal) k l) in
       omega (arith, b)
 
   -- the best value
-  pub best-bound : natAbs (bestCount g p y) ≤ 32768 * againstBase g p y
+  pub best-bound : natAbs (bestCount g p y) ≤ 32768 * againstBase g y
   unfolding pureCount
   best-bound =
-      subst (λ (z : ℤ). natAbs z ≤ 32768 * againstBase g p y) (response-earns g p y R)
+      subst (λ (z : ℤ). natAbs z ≤ 32768 * againstBase g y) (response-earns g p y R)
       (pure-bound (listed (bestResponse g p y)) (response-pure g p y R) (g .nodes) (omega arith))
 
--- a weight that goes by the last move
-weight-most : (x : RealizationPlan) → PlanLimits x → (s : Sequence) → sequenceWeight x s ≤ 65535
-unfolding sequenceWeight byLastMove
-weight-most x M s = go (x .denominator) (M .denominator) s
-  where
-    go : (d : ℕ) → d ≤ 65535 → (s : Sequence) → byLastMove d (λ (last : Move). x .moveWeight (last .0) (last .1)) s ≤ 65535
-    go d l [] = l
-    go d l (a ∷ s) = go (x .moveWeight (a .0) (a .1)) (M .weights (a .0) (a .1)) s
-
 -- all leaves together count at most this much
-pub leaf-sizes-bound : (g : Game) → GameLimits g → (p : Player) (y : RealizationPlan) → PlanLimits y → leafSizes g p y ≤ 4095 * (4095 * 65535 * 32768)
+leaf-sizes-bound : (g : Game) → GameLimits g → (p : Player) (y : RealizationPlan) → ((n : ℕ) → n < g .nodes → weightAt g y (other p) n ≤ weightLimit) → leafSizes g p y ≤ 4095 * (4095 * weightLimit * 32768)
 unfolding leafSizes leafSize leafTerm weightAt
-leaf-sizes-bound g L p y M =
-    let B = 4095 * 65535 * 32768 in
-    omega (arith, count-bound (g .nodes) B (leafSize g p y) (λ n l. one-leaf n (isLeaf g n)), NatL.mul-le-mul-right B (L .nodes))
+leaf-sizes-bound g L p y small =
+    let B = 4095 * weightLimit * 32768 in
+    omega (arith, count-bound (g .nodes) B (leafSize g p y) (λ n l. one-leaf n l (isLeaf g n)), NatL.mul-le-mul-right B (L .nodes))
   where
-    one-leaf : (n : ℕ) (b : Bool) → only b (natAbs (pos (g .weight n * sequenceWeight y (ownSequence g (other p) n)) *ℤ g .payoff p n)) ≤ 4095 * 65535 * 32768
-    one-leaf n true =
-        omega (arith, abs-scale (g .weight n * sequenceWeight y (ownSequence g (other p) n)) (g .payoff p n), NatL.mul-le-mul (NatL.mul-le-mul (L .weights n) (weight-most y M (ownSequence g (other p) n))) (L .payoffs p n))
-    one-leaf n false = omega arith
+    one-leaf : (n : ℕ) → n < g .nodes → (b : Bool) → only b (natAbs (pos (g .weight n * sequenceWeight y (ownSequence g (other p) n)) *ℤ g .payoff p n)) ≤ 4095 * weightLimit * 32768
+    one-leaf n l true =
+        omega (arith, abs-scale (g .weight n * sequenceWeight y (ownSequence g (other p) n)) (g .payoff p n), NatL.mul-le-mul (NatL.mul-le-mul (L .weights n) (small n l)) (L .payoffs p n))
+    one-leaf n l false = omega arith
 
 -- every prefix of an entry of the payoff table
-table-bound : (g : Game) → GameLimits g → (p : Player) (s t k : ℕ) → k ≤ g .nodes → natAbs (sumWhere k (standsAt g s t) (weighedPayoff g p)) ≤ 4095 * (4095 * 32768)
-unfolding weighedPayoff
+table-bound : (g : Game) → GameLimits g → (p : Player) (s t k : ℕ) → k ≤ g .nodes → natAbs (sumWhere k (standsAt g s t) (weightedPayoff g p)) ≤ 4095 * (4095 * 32768)
+unfolding weightedPayoff
 table-bound g L p s t k l =
     let B = 4095 * 32768 in
-    let f : ℕ → ℕ = λ n. only (standsAt g s t n) (natAbs (weighedPayoff g p n)) in
-    let a = abs-where k (standsAt g s t) (weighedPayoff g p) in
-    let b = where-is k (standsAt g s t) (λ n. natAbs (weighedPayoff g p n)) in
-    let c = count-bound k B f (λ n v. omega (arith, only-most (standsAt g s t n) (natAbs (weighedPayoff g p n)), abs-scale (g .weight n) (g .payoff p n), NatL.mul-le-mul (L .weights n) (L .payoffs p n))) in
+    let f : ℕ → ℕ = λ n. only (standsAt g s t n) (natAbs (weightedPayoff g p n)) in
+    let a = abs-where k (standsAt g s t) (weightedPayoff g p) in
+    let c = count-bound k B f (λ n v. omega (arith, only-most (standsAt g s t n) (natAbs (weightedPayoff g p n)), abs-scale (g .weight n) (g .payoff p n), NatL.mul-le-mul (L .weights n) (L .payoffs p n))) in
     let few : k ≤ 4095 = omega (arith, L .nodes) in
-    omega (arith, a, b, c, NatL.mul-le-mul-right B few)
+    omega (arith, a, c, NatL.mul-le-mul-right B few)
 
--- Every sum that is computed for a pair of plans stays within an i64.
+-- so each stays within an i64
+pub table-fits : (g : Game) → GameLimits g → (p : Player) (s t k : ℕ) → k ≤ g .nodes → SFits w64 (sumWhere k (standsAt g s t) (weightedPayoff g p))
+table-fits g L p s t k l = sfits-abs w64 _ (omega (arith, table-bound g L p s t k l))
+
+-- Every sum that is computed for a best response of p's against y stays within an i64.
+pub record ResponseBudget (g : Game) (p : Player) (y : RealizationPlan) : Type 0 where
+  pub leaves : (s : Sequence) (k : ℕ) → k ≤ g .nodes → SFits w64 (sumWhere k (λ n. isLeaf g n && same (ownSequence g p n) s) (leafTerm g p y))
+  pub partial : (f : ℕ) (s : Sequence) (k : ℕ) → k ≤ g .sets → SFits w64 (leavesWorth g p y s +ℤ sumWhere k (leadsTo g p s) (greatestWorth g (worthIn g p y f)))
+
+-- for weights within what contracts allow
+pub response-budget : (g : Game) → GameRules g → GameLimits g → (p : Player) (y : RealizationPlan) → ((n : ℕ) → n < g .nodes → weightAt g y (other p) n ≤ weightLimit) → ResponseBudget g p y
+response-budget g R L p y small =
+    let sizes = leaf-sizes-bound g L p y small in
+    record {
+      leaves = λ s k l. sfits-abs w64 _ (omega (arith, leaves-bound g p y s k l, sizes));
+      partial = λ f s k l. sfits-abs w64 _ (omega (arith, partial-bound g p y (λ h v. R .set-moves h v .0) f s k l, sizes));
+    }
+
+-- Every sum that is computed for a pair of plans, best responses apart, stays within an i64.
 pub record Budget (g : Game) (q : PlanPair) : Type 0 where
-  pub table : (p : Player) (s t k : ℕ) → k ≤ g .nodes → SFits w64 (sumWhere k (standsAt g s t) (weighedPayoff g p))
   pub value : (p : Player) (k : ℕ) → k ≤ g .nodes → SFits w64 (sumWhere k (isLeaf g) (valueTerm g q p))
-  pub leaves : (p : Player) (s : Sequence) (k : ℕ) → k ≤ g .nodes → SFits w64 (sumWhere k (λ n. isLeaf g n && same (ownSequence g p n) s) (leafTerm g p (q (other p))))
-  pub worths : (p : Player) (f : ℕ) (s : Sequence) → SFits w64 (worthIn g p (q (other p)) f s)
-  pub partial : (p : Player) (f : ℕ) (s : Sequence) (k : ℕ) → k ≤ g .sets → SFits w64 (leavesWorth g p (q (other p)) s +ℤ sumWhere k (leadsTo g p s) (greatestMove g (worthIn g p (q (other p)) f)))
+  pub best : (p : Player) → SFits w64 (bestCount g p (q (other p)))
   pub scaled : (p : Player) → SFits w64 (scaledBest g q p)
   pub gains : (p : Player) → SFits w64 (gain g q p)
 
 module _ (g : Game) (R : GameRules g) (L : GameLimits g) (q : PlanPair) (F : (p : Player) → Fits g p (q p)) (M : (p : Player) → PlanLimits (q p)) where
   -- D0 × D1 × D2
-  base-bound : valueBase g q ≤ 4095 * (65535 * 65535)
+  base-bound : valueBase g q ≤ 4095 * (weightLimit * weightLimit)
   unfolding valueBase
   base-bound = NatL.mul-le-mul (L .root) (NatL.mul-le-mul (M one .denominator) (M two .denominator))
+
+  -- D0 × the other's D
+  against-bound : (p : Player) → againstBase g (q (other p)) ≤ 4095 * weightLimit
+  unfolding againstBase
+  against-bound p = NatL.mul-le-mul (L .root) (M (other p) .denominator)
 
   -- every prefix of the value's sum
   value-bound : (p : Player) (k : ℕ) → k ≤ g .nodes → natAbs (sumWhere k (isLeaf g) (valueTerm g q p)) ≤ 32768 * valueBase g q
@@ -199,7 +205,7 @@ module _ (g : Game) (R : GameRules g) (L : GameLimits g) (q : PlanPair) (F : (p 
   scaled-bound p =
       let d = q p .denominator in
       let y = q (other p) in
-      omega (arith, abs-scale d (bestCount g p y), NatL.mul-le-mul-left d (best-bound g R L p y (F (other p))), NatL.mul-left-comm d 32768 (againstBase g p y), ap (λ (k : ℕ). 32768 * k) (bases-agree g q p))
+      omega (arith, abs-scale d (bestCount g p y), NatL.mul-le-mul-left d (best-bound g R L p y (F (other p))), NatL.mul-left-comm d 32768 (againstBase g y), ap (λ (k : ℕ). 32768 * k) (bases-agree g q p))
 
   gain-bound : (p : Player) → natAbs (gain g q p) ≤ 2 * (32768 * valueBase g q)
   unfolding gain valueCount
@@ -207,17 +213,8 @@ module _ (g : Game) (R : GameRules g) (L : GameLimits g) (q : PlanPair) (F : (p 
 
   pub budget : Budget g q
   budget = record {
-    table = λ p s t k l. sfits-abs w64 _ (omega (arith, table-bound g L p s t k l));
     value = λ p k l. sfits-abs w64 _ (omega (arith, value-bound p k l, base-bound));
-    leaves = λ p s k l. sfits-abs w64 _ (omega (arith, leaves-bound g p (q (other p)) s k l, sizes p));
-    worths = λ p f s. sfits-abs w64 _ (omega (arith, worth-bound g p (q (other p)) some f s, sizes p));
-    partial = λ p f s k l. sfits-abs w64 _ (omega (arith, partial-bound g p (q (other p)) some f s k l, sizes p));
+    best = λ p. sfits-abs w64 _ (omega (arith, best-bound g R L p (q (other p)) (F (other p)), against-bound p));
     scaled = λ p. sfits-abs w64 _ (omega (arith, scaled-bound p, base-bound));
     gains = λ p. sfits-abs w64 _ (omega (arith, gain-bound p, base-bound));
   }
-    where
-      some : (h : ℕ) → h < g .sets → 0 < g .setMoves h
-      some h l = R .set-moves h l .0
-
-      sizes : (p : Player) → leafSizes g p (q (other p)) ≤ 4095 * (4095 * 65535 * 32768)
-      sizes p = leaf-sizes-bound g L p (q (other p)) (M (other p))

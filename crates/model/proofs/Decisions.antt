@@ -1,7 +1,10 @@
 -- Tests that decide propositions: each connective of tests against the one of propositions.
 use Prim.Native.Nat.{ℕ, zero, suc, _≤_, _<_}
-use mathlib.Core.Path.{_≡_}
-use mathlib.Core.Bool.{Bool, not, _&&_}
+use mathlib.Core.Path.{_≡_, subst}
+use mathlib.Core.Logic.{_⊎_, inl, inr, ⊎-elim}
+use mathlib.Core.Bool.{Bool, true, false, not, _&&_}
+use native.Mathlib.Omega.{arith}
+use native.Mathlib.Decide.{ℕ-discrete}
 use lib.Dec.{T, eqb, ltb, leb, eqb→eq, ltb→lt, lt→ltb, leb→le, le→leb, T-not, not-T}
 use mir.Facts.{and-yes, yes-and}
 use Rattle.algebra.specs.Bounded.{implies, allTo, anyTo}
@@ -85,3 +88,62 @@ any-iff {n} {p} d = record {
   holds = λ t. let r = anyTo-find n p t in (r .0, r .1, d (r .0) .holds (r .2));
   passes = λ r. anyTo-make n p (r .0) (r .1) (d (r .0) .passes (r .2));
 }
+
+-- The test fails exactly where the proposition holds.
+pub record Fails (test : Bool) (P : Type 0) : Type 0 where
+  pub applies : ¬ T test → P
+  pub fails : P → ¬ T test
+
+-- a test fails where what it decides does not hold
+pub no-fails : {a : Bool} {P : Type 0} → Decides a P → Fails a (¬ P)
+no-fails d = record { applies = λ n h. n (d .passes h); fails = λ h t. h (d .holds t) }
+
+-- a proposition that says the same
+pub same-fails : {a : Bool} {P Q : Type 0} → (P → Q) → (Q → P) → Fails a P → Fails a Q
+same-fails to back d = record { applies = λ n. to (d .applies n); fails = λ h. d .fails (back h) }
+
+-- numbers that are not equal
+pub eqb-fails : (m n : ℕ) → Fails (eqb m n) (¬ (m ≡ n))
+eqb-fails m n = no-fails (eqb-iff m n)
+
+-- a number that is not at most another
+pub leb-fails : (m n : ℕ) → Fails (leb m n) (n < m)
+leb-fails m n = same-fails (λ h. omega arith) (λ h l. omega arith) (no-fails (leb-iff m n))
+
+-- a number that is not smaller
+pub ltb-fails : (m n : ℕ) → Fails (ltb m n) (n ≤ m)
+ltb-fails m n = same-fails (λ h. omega arith) (λ h l. omega arith) (no-fails (ltb-iff m n))
+
+-- a negated test fails where it passes
+pub not-fails : {a : Bool} {P : Type 0} → Decides a P → Fails (not a) P
+not-fails {a = true} d = record { applies = λ n. d .holds tt; fails = λ h t. t }
+not-fails {a = false} d = record { applies = λ n. absurd (n tt); fails = λ h t. d .passes h }
+
+-- one of two
+pub and-fails : {a b : Bool} {P Q : Type 0} → Fails a P → Fails b Q → Fails (a && b) (P ⊎ Q)
+and-fails {a = true} d e = record { applies = λ n. inr (e .applies n); fails = ⊎-elim (λ h. absurd (d .fails h tt)) (e .fails) }
+and-fails {a = false} d e = record { applies = λ n. inl (d .applies n); fails = λ h t. t }
+
+-- the first without the second
+pub implies-fails : {a b : Bool} {P Q : Type 0} → Decides a P → Fails b Q → Fails (implies a b) (P × Q)
+unfolding implies
+implies-fails {a = true} d e = record { applies = λ n. (d .holds tt, e .applies n); fails = λ h. e .fails (h .1) }
+implies-fails {a = false} d e = record { applies = λ n. absurd (n tt); fails = λ h t. d .passes (h .0) }
+
+-- some number below n
+pub all-fails : {p : ℕ → Bool} {P : ℕ → Type 0} (n : ℕ) → ((i : ℕ) → i < n → Fails (p i) (P i)) → Fails (allTo n p) ((i : ℕ) × (i < n) × P i)
+unfolding allTo
+all-fails zero d = record { applies = λ n. absurd (n tt); fails = λ r t. let l = r .1 in absurd (omega arith) }
+all-fails {p} {P} (suc n) d = same-fails to back (and-fails (all-fails n (λ i l. d i (omega arith))) (d n (omega arith)))
+  where
+    to : ((i : ℕ) × (i < n) × P i) ⊎ P n → (i : ℕ) × (i < suc n) × P i
+    to (inl r) = let l = r .1 in (r .0, omega arith, r .2)
+    to (inr h) = (n, omega arith, h)
+
+    back : (i : ℕ) × (i < suc n) × P i → ((i : ℕ) × (i < n) × P i) ⊎ P n
+    back r =
+        let l = r .1 in
+        elim (ℕ-discrete (r .0) n) [
+          | yes e ↦ inr (subst P e (r .2))
+          | no e ↦ inl (r .0, omega arith, r .2)
+        ]

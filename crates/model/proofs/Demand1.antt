@@ -6,17 +6,20 @@ use mathlib.Core.Bool.{Bool, true, false}
 use mathlib.Core.List.{List, [], _∷_, _++_}
 use lib.ListN.{length, take, drop}
 use lib.Seq.{take-append-seam, drop-append-seam}
-use lib.Dec.{T, ltb}
-use Rattle.model.specs.Game.{gameOf}
-use Rattle.model.specs.Refusals.{Checks, along, numbers}
+use lib.Dec.{ltb}
+use Rattle.model.specs.Game.{Game, gameOf}
+use Rattle.model.specs.Refusals.{Checks, firstFailing, along, numbers}
 use Rattle.model.specs.GameChecks.{headerChecks, treeChecks, gameChecks, gameRefusal, GameAccepted}
 use Rattle.model.specs.Plan.{planPairOf}
 use Rattle.model.specs.PlanChecks.{Files, planChecks, pairChecks, pairRefusal, PlanFits}
-use Rattle.model.specs.Writing.{gameFieldsFit, planFieldsFit}
-use Rattle.model.specs.Calls.{afterCall, Numbered, Lent, longEnough, withRoom, setNumberChecks, nodeNumberChecks, gameFieldsChecks, planFieldsChecks, tableChecks, verdictChecks, reportChecks, refusalLineChecks, gameWriterChecks, planWriterChecks}
-use Rattle.model.specs.Demand1.{GameRules, GameFile, PlanFile, GoodFiles, RoomFor, Answers, gameNumbers, pairNumbers, Demand1}
-use Rattle.model.proofs.Decisions.{Decides, itself-iff, ltb-iff, leb-iff, and-iff}
-use Rattle.model.proofs.Refusals.{nonzero, AllPass, none-fails, none-append, first-along, first-refusal, answers-one, answers-along, answers-append}
+use Rattle.model.specs.Writing.{gameFieldsFit}
+use Rattle.model.specs.Calls.{afterCall, Numbered, Lent, longEnough, withRoom, setNumberChecks, nodeNumberChecks, gameFieldLengths, gameFieldsChecks, weightLengths, planFieldsChecks, tableLengths, tableChecks, rowsLengths, rowsChecks, strategyLengths, verdictChecks, reportLengths, reportChecks, lineLengths, refusalLineChecks, gameFileLengths, gameWriterChecks, planFileLengths, planWriterChecks}
+use Rattle.model.specs.Reasons.{Reasons, ofPart, gameReasons, planReasons, pairReasons, orMissing, orShort}
+use Rattle.model.specs.Demand1.{GameRules, GameFile, PlanFile, GoodFiles, RoomFor, FieldsFit, PlanFieldsFit, misfit, Answers, AnswersIn, Demand1}
+use Rattle.model.proofs.Decisions.{Decides, itself-iff, ltb-iff, leb-iff, and-iff, no-fails, ltb-fails}
+use Rattle.model.proofs.Refusals.{AllPass, none-fails, none-append, first-along, Answering, answers, answering-one, answering-along, answering-append}
+use Rattle.model.proofs.Reasons.{game-agrees, plan-agrees, room-fails}
+use Rattle.model.proofs.Fields.{fields-fit-iff, plan-fields-fit-iff}
 use Rattle.model.proofs.GameRules.{Attached, header-iff, edition-iff, counts-iff, length-iff, set-moves-iff, records-iff, payloads-iff, attached-iff, moves-iff, weights-iff, paths-iff, set-node-iff, recall-iff}
 use Rattle.model.proofs.PlanRules.{plan-length-iff, well-formed-iff, pair-fits-iff}
 
@@ -148,19 +151,28 @@ module _ (game plan : List ℕ) where
       (λ e. let h = both .0 e in (sym part ∙ h .0, h .1), λ h. both .1 (part ∙ h .0, h .1))
 
 -- 1 to 13
-game-answers : Answers gameChecks GameFile (gameNumbers [])
+game-answering : Answering gameChecks GameFile gameReasons
 unfolding gameRefusal numbers gameChecks headerChecks treeChecks
-game-answers = record { in-order = refl; taken = game-file-iff; first = first-refusal gameChecks }
+game-answering = record { named = tt; taken = game-file-iff; agrees = game-agrees }
 
 -- 14 to 16
-plan-answers : Answers planChecks (λ f. PlanFile (gameOf (f .game)) (f .plan)) (14 ∷ 15 ∷ 16 ∷ [])
+plan-answering : Answering planChecks (λ f. PlanFile (gameOf (f .game)) (f .plan)) planReasons
 unfolding numbers planChecks
-plan-answers = record { in-order = refl; taken = λ f. plan-file-iff (f .game) (f .plan); first = first-refusal planChecks }
+plan-answering = record { named = tt; taken = λ f. plan-file-iff (f .game) (f .plan); agrees = plan-agrees }
 
 -- 1 to 16
-pair-answers : Answers pairChecks GoodFiles (pairNumbers [])
-unfolding pairChecks
-pair-answers = answers-append (along (λ f. f .game) gameChecks) planChecks tt (answers-along (λ f. f .game) gameChecks game-answers) plan-answers
+pair-answering : Answering pairChecks GoodFiles pairReasons
+unfolding pairChecks pairReasons
+pair-answering = answering-append (along (λ f. f .game) gameChecks) planChecks (ofPart (λ f. f .game) gameReasons) planReasons (answering-along (λ f. f .game) gameChecks gameReasons game-answering) plan-answering
+
+-- a call without checks of its own takes everything
+any-answering : {A : Type 0} → Answering {A = A} [] (λ a. Unit {0}) []
+unfolding numbers firstFailing
+any-answering = record { named = tt; taken = λ a. (λ u. refl, λ e. tt); agrees = λ a. tt }
+
+-- 17 of a writer
+writer-answering : {A : Type 0} {Fit : A → Type 0} (test : A → Bool) → ((a : A) → Decides (test a) (Fit a)) → Answering ((17, test) ∷ []) Fit (misfit Fit)
+writer-answering test decides = answering-one 17 test tt decides (λ a. no-fails (decides a))
 
 -- room for results
 room-iff : (results rooms : List ℕ) → Decides (longEnough results rooms) (RoomFor results rooms)
@@ -169,26 +181,21 @@ room-iff [] (r ∷ rooms) = itself-iff true
 room-iff (n ∷ results) [] = itself-iff false
 room-iff (n ∷ results) (r ∷ rooms) = and-iff (leb-iff n r) (room-iff results rooms)
 
--- 18 alone
-room-answers : {A : Type 0} (results : A → List ℕ) → Answers (withRoom [] results) (λ c. RoomFor (results (c .input)) (c .rooms)) (18 ∷ [])
-unfolding along withRoom
-room-answers results = answers-one 18 _ tt (λ c. room-iff (results (c .input)) (c .rooms))
-
 -- a call's own checks, then 18
-lent-answers : {A : Type 0} {Good : A → Type 0} {ks : List ℕ} (checks : Checks A) (results : A → List ℕ) → T (nonzero ks) → Answers checks Good ks → Answers (withRoom checks results) (λ c. Good (c .input) × RoomFor (results (c .input)) (c .rooms)) (ks ++ 18 ∷ [])
-unfolding along withRoom
-lent-answers {A = A} checks results n given =
-    answers-append (along (λ c. c .input) checks) _ n (answers-along (λ (c : Lent A). c .input) checks given) (room-answers results)
+lent-answers : {A : Type 0} {Good : A → Type 0} (checks : Checks A) (reasons : Reasons A) (lengths : A → List ℕ) → Answering checks Good reasons → AnswersIn (withRoom checks lengths) Good reasons lengths
+unfolding withRoom orShort
+lent-answers {A = A} checks reasons lengths given =
+    answers
+    (answering-append (along (λ c. c .input) checks) _ (ofPart (λ c. c .input) reasons) _ (answering-along (λ (c : Lent A). c .input) checks reasons given)
+    (answering-one 18 _ tt (λ c. room-iff (lengths (c .input)) (c .rooms)) (λ c. room-fails (lengths (c .input)) (c .rooms))))
 
--- 1 to 13, then 17: the number asked for is below a bound
-numbered-answers : (bound : List ℕ → ℕ) → Answers (along (λ c. c .file) gameChecks ++ (17, λ (c : Numbered). ltb (c .number) (bound (c .file))) ∷ []) (λ c. GameFile (c .file) × (c .number < bound (c .file))) (gameNumbers (17 ∷ []))
-numbered-answers bound =
-    answers-append (along (λ c. c .file) gameChecks) _ tt (answers-along (λ (c : Numbered). c .file) gameChecks game-answers)
-    (answers-one 17 _ tt (λ c. ltb-iff (c .number) (bound (c .file))))
-
--- 17, then 18
-writer-answers : {A : Type 0} (test : A → Bool) (results : A → List ℕ) → Answers (withRoom ((17, test) ∷ []) results) (λ c. T (test (c .input)) × RoomFor (results (c .input)) (c .rooms)) (17 ∷ 18 ∷ [])
-writer-answers test results = lent-answers ((17, test) ∷ []) results tt (answers-one 17 test tt (λ a. itself-iff (test a)))
+-- 1 to 13, then 17: the number asked for is below a count
+numbered-answers : (count : Game → ℕ) → Answers (along (λ c. c .file) gameChecks ++ (17, λ (c : Numbered). ltb (c .number) (count (gameOf (c .file)))) ∷ []) (λ c. GameFile (c .file) × (c .number < count (gameOf (c .file)))) (orMissing count)
+unfolding orMissing
+numbered-answers count =
+    answers
+    (answering-append (along (λ c. c .file) gameChecks) _ (ofPart (λ c. c .file) gameReasons) _ (answering-along (λ (c : Numbered). c .file) gameChecks gameReasons game-answering)
+    (answering-one 17 _ tt (λ c. ltb-iff (c .number) (count (gameOf (c .file)))) (λ c. ltb-fails (c .number) (count (gameOf (c .file))))))
 
 -- a refusal leaves a lent buffer as it was
 kept : {A : Type 0} (k : ℕ) (result buffer : List A) → ¬ (k ≡ 0) → afterCall k result buffer ≡ buffer
@@ -203,20 +210,21 @@ written result buffer = (take-append-seam result (drop (length result) buffer), 
 
 -- demand 1, for every entry point
 pub demand1 : Demand1
-unfolding setNumberChecks nodeNumberChecks gameFieldsChecks planFieldsChecks tableChecks verdictChecks reportChecks refusalLineChecks gameWriterChecks planWriterChecks
+unfolding setNumberChecks nodeNumberChecks gameFieldsChecks planFieldsChecks tableChecks rowsChecks verdictChecks reportChecks refusalLineChecks gameWriterChecks planWriterChecks
 demand1 = record {
-  game-check = game-answers;
-  set-number = numbered-answers (λ b. gameOf b .sets);
-  node-number = numbered-answers (λ b. gameOf b .nodes);
-  game-fields = lent-answers gameChecks _ tt game-answers;
-  plan-check = pair-answers;
-  plan-fields = lent-answers pairChecks _ tt pair-answers;
-  table = lent-answers gameChecks _ tt game-answers;
-  judgement = lent-answers pairChecks _ tt pair-answers;
-  report = lent-answers pairChecks _ tt pair-answers;
-  refusal-line = room-answers _;
-  game-writer = writer-answers gameFieldsFit _;
-  plan-writer = writer-answers (λ t. planFieldsFit (t .d1) (t .d2) (t .weights)) _;
+  game-check = answers game-answering;
+  set-number = numbered-answers (λ g. g .sets);
+  node-number = numbered-answers (λ g. g .nodes);
+  game-fields = lent-answers gameChecks gameReasons gameFieldLengths game-answering;
+  plan-check = answers pair-answering;
+  plan-fields = lent-answers pairChecks pairReasons weightLengths pair-answering;
+  table = lent-answers gameChecks gameReasons tableLengths game-answering;
+  rows = lent-answers gameChecks gameReasons rowsLengths game-answering;
+  judgement = lent-answers pairChecks pairReasons strategyLengths pair-answering;
+  report = lent-answers pairChecks pairReasons reportLengths pair-answering;
+  refusal-line = lent-answers [] [] lineLengths any-answering;
+  game-writer = lent-answers _ (misfit FieldsFit) gameFileLengths (writer-answering gameFieldsFit fields-fit-iff);
+  plan-writer = lent-answers _ (misfit PlanFieldsFit) planFileLengths (writer-answering _ plan-fields-fit-iff);
   kept = kept;
   written = written;
 }

@@ -13,15 +13,15 @@ use Rattle.algebra.proofs.Integers.{le-to, to-le, sub-is, ≤ℤ-trans, nonneg-
 use Rattle.model.specs.Game.{Game, gameOf, Player, one, two, other, owns}
 use Rattle.model.specs.Sequences.{Move}
 use Rattle.model.specs.Plan.{PlanPair, planPairOf}
-use Rattle.model.specs.Earnings.{Equal, minus, listed, totalWeight, IsMixed, pureCount, againstBase, pureEarnings, mixedCount, mixedEarnings, planCount, planEarnings, valueBase, valueCount}
+use Rattle.model.specs.Earnings.{AtMost, Equal, minus, listed, IsMixed, pureCount, againstBase, pureEarnings, mixedEarnings, planCount, planEarnings, valueBase, valueCount}
 use Rattle.model.specs.BestResponse.{bestCount, bestResponse}
 use Rattle.model.specs.Verdict.{Verdict, equilibrium, deviation, scaledBest, gain, deviates, verdict}
 use Rattle.model.specs.Demand1.{GameRules}
 use Rattle.model.specs.Demand3.{NoProfitableDeviation, moveWorth, LowestBest, Deviates, BasesPositive, Judged, Demand3}
 use Rattle.model.proofs.Demand1.{game-rules, plan-rules}
 use Rattle.model.proofs.Duality.{Fits, plan-at-most}
-use Rattle.model.proofs.Strategies.{pure-at-most, mixed-at-most}
-use Rattle.model.proofs.BestResponses.{response-move, response-sets, best-move, lower-move, response-pure, response-earns}
+use Rattle.model.proofs.Strategies.{pure-at-most}
+use Rattle.model.proofs.BestResponses.{response-move, response-sets, best-move, lower-move, response-pure, response-earns, pure-most, mixed-most, response-attains}
 use Rattle.model.proofs.Earnings.{bases-agree, own-count}
 
 -- the two players are not the same
@@ -51,11 +51,6 @@ fraction-cancel : (d E : ℕ) (a c : ℤ) → 0 < E → (pos (d * E) *ℤ a) ≤
 fraction-cancel d E a c z h =
     scale-cancel E (pos d *ℤ a) c z
     (subst (λ (z : ℤ). z ≤ℤ (pos E *ℤ c)) (sym (scale-scale E d a ∙ ap (λ (k : ℕ). pos k *ℤ a) (NatL.mul-comm E d))) h)
-
--- a mixture that counts at most t times as much is at most as much
-mixture-at-most : (t E : ℕ) (m a : ℤ) → m ≤ℤ (pos t *ℤ a) → (pos E *ℤ m) ≤ℤ (pos (t * E) *ℤ a)
-mixture-at-most t E m a h =
-    subst (λ (z : ℤ). (pos E *ℤ m) ≤ℤ z) (scale-scale E t a ∙ ap (λ (k : ℕ). pos k *ℤ a) (NatL.mul-comm E t)) (scale-mono E h)
 
 -- the difference of a over E and c over d × E is (d × a - c) over d × E
 difference : (d E v : ℕ) (a c : ℤ) → d * E ≡ v → Equal (record { count = pos d *ℤ a -ℤ c; base = v }) (minus (record { count = a; base = E }) (record { count = c; base = d * E }))
@@ -88,12 +83,12 @@ module _ (g : Game) (R : GameRules g) (q : PlanPair) (F : (p : Player) → Fits 
   content p n σ legal =
       let d = q p .denominator in
       let y = q (other p) in
-      fraction-at-most d (againstBase g p y) (pureCount g p y σ) (planCount g p y (q p))
+      fraction-at-most d (againstBase g y) (pureCount g p y σ) (planCount g p y (q p))
       (≤ℤ-trans (scale-mono d (pure-at-most g R p y σ legal))
       (subst (λ (z : ℤ). (pos d *ℤ bestCount g p y) ≤ℤ z) (sym (own-count g q p)) (not-above-zero (pos d *ℤ bestCount g p y) (valueCount g q p) n)))
 
   -- where it is above 0, the best response is one
-  gainful : (p : Player) → 0 < againstBase g p (q (other p)) → T (ltZ (pos 0) (gain g q p)) → ¬ NoProfitableDeviation g q p
+  gainful : (p : Player) → 0 < againstBase g (q (other p)) → T (ltZ (pos 0) (gain g q p)) → ¬ NoProfitableDeviation g q p
   unfolding NoProfitableDeviation pureEarnings planEarnings gain scaledBest
   gainful p z t c =
       let d = q p .denominator in
@@ -102,7 +97,7 @@ module _ (g : Game) (R : GameRules g) (q : PlanPair) (F : (p : Player) → Fits 
       above-zero (pos d *ℤ bestCount g p y) (valueCount g q p) t
       (subst (λ (k : ℤ). (pos d *ℤ bestCount g p y) ≤ℤ k) (own-count g q p)
       (subst (λ (k : ℤ). (pos d *ℤ k) ≤ℤ planCount g p y (q p)) (response-earns g p y R)
-      (fraction-cancel d (againstBase g p y) (pureCount g p y σ) (planCount g p y (q p)) z (c σ (response-pure g p y R)))))
+      (fraction-cancel d (againstBase g y) (pureCount g p y σ) (planCount g p y (q p)) z (c σ (response-pure g p y R)))))
 
   -- the shown move of a set is its lowest-numbered best one
   lowest-best : (p : Player) (h : ℕ) → h < g .sets → T (owns g p h) → LowestBest g q p h (listed (bestResponse g p (q (other p))) h)
@@ -123,33 +118,29 @@ module _ (g : Game) (R : GameRules g) (q : PlanPair) (F : (p : Player) → Fits 
       let d = q p .denominator in
       let y = q (other p) in
       let c = planCount g p y (q p) in
-      subst (λ (v : ℤ). Equal (record { count = pos d *ℤ bestCount g p y -ℤ v; base = valueBase g q }) (minus (record { count = pureCount g p y (listed (bestResponse g p y)); base = againstBase g p y }) (record { count = c; base = d * againstBase g p y }))) (own-count g q p)
-      (subst (λ (a : ℤ). Equal (record { count = pos d *ℤ bestCount g p y -ℤ c; base = valueBase g q }) (minus (record { count = a; base = againstBase g p y }) (record { count = c; base = d * againstBase g p y }))) (sym (response-earns g p y R))
-      (difference d (againstBase g p y) (valueBase g q) (bestCount g p y) c (bases-agree g q p)))
+      subst (λ (v : ℤ). Equal (record { count = pos d *ℤ bestCount g p y -ℤ v; base = valueBase g q }) (minus (record { count = pureCount g p y (listed (bestResponse g p y)); base = againstBase g y }) (record { count = c; base = d * againstBase g y }))) (own-count g q p)
+      (subst (λ (a : ℤ). Equal (record { count = pos d *ℤ bestCount g p y -ℤ c; base = valueBase g q }) (minus (record { count = a; base = againstBase g y }) (record { count = c; base = d * againstBase g y }))) (sym (response-earns g p y R))
+      (difference d (againstBase g y) (valueBase g q) (bestCount g p y) c (bases-agree g q p)))
 
   -- what the best response of a player who can gain says
   deviating : (p : Player) → T (ltZ (pos 0) (gain g q p)) → (p ≡ two → NoProfitableDeviation g q one) → Deviates g q p (gain g q p) (bestResponse g p (q (other p)))
-  unfolding pureEarnings mixedEarnings IsMixed
   deviating p t f =
       let y = q (other p) in
-      let σ = listed (bestResponse g p y) in
-      let earns : (z : ℤ) → z ≤ℤ bestCount g p y → z ≤ℤ pureCount g p y σ = λ z h. subst (λ (k : ℤ). z ≤ℤ k) (sym (response-earns g p y R)) h in
+      let attained = sym (response-attains g p y R) in
       record {
-        named = f;
+        firstFirst = f;
         everySet = response-sets g p y;
         pure = response-pure g p y R;
         worthiest = lowest-best p;
         exact = exact-gain p;
         above = ltZ-yes t;
-        best = λ τ legal. scale-mono (againstBase g p y) (earns (pureCount g p y τ) (pure-at-most g R p y τ legal));
-        bestMixed = λ μ legal.
-            mixture-at-most (totalWeight μ) (againstBase g p y) (mixedCount g p y μ) (pureCount g p y σ)
-            (subst (λ (k : ℤ). mixedCount g p y μ ≤ℤ (pos (totalWeight μ) *ℤ k)) (sym (response-earns g p y R)) (mixed-at-most g R p y μ (legal .0)));
+        best = λ τ legal. subst (AtMost (pureEarnings g p y τ)) attained (pure-most g p y R τ legal);
+        bestMixed = λ μ legal. subst (AtMost (mixedEarnings g p y μ)) attained (mixed-most g p y R μ legal);
       }
 
   module _ (root : 0 < g .rootWeight) (some : (p : Player) → 0 < q p .denominator) where
     -- every base is above 0
-    against-positive : (p : Player) → 0 < againstBase g p (q (other p))
+    against-positive : (p : Player) → 0 < againstBase g (q (other p))
     unfolding againstBase
     against-positive p = NatL.mul-pos root (some (other p))
 

@@ -12,7 +12,7 @@ use Rattle.model.specs.Earnings.{leafTerm, againstBase, planCount, planE
 
 module _ (g : Game) (q : PlanPair) where
   -- p's denominator × D0 × the other's is D0 × D1 × D2
-  pub bases-agree : (p : Player) → q p .denominator * againstBase g p (q (other p)) ≡ valueBase g q
+  pub bases-agree : (p : Player) → q p .denominator * againstBase g (q (other p)) ≡ valueBase g q
   unfolding againstBase valueBase
   bases-agree one = NatL.mul-left-comm (q one .denominator) (g .rootWeight) (q two .denominator)
   bases-agree two = NatL.mul-comm (q two .denominator) (g .rootWeight * q one .denominator) ∙ NatL.mul-assoc (g .rootWeight) (q one .denominator) (q two .denominator)

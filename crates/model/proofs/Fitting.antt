@@ -1,31 +1,35 @@
 -- What the writers ask of the fields that they are given, in plain propositions.
-use Prim.Native.Nat.{ℕ, zero, suc, _*_, _^_, _<_}
+use Prim.Native.Nat.{ℕ, zero, suc, _^_, _<_}
 use mathlib.Core.Path.{_≡_, refl}
 use mathlib.Core.Bool.{Bool, false, _&&_}
-use mathlib.Core.List.{List, [], _∷_, map}
+use mathlib.Core.List.{List, [], _∷_}
 use native.Mathlib.Omega.{arith}
 use native.Mathlib.Decide.{decLt}
-use lib.Dec.{T, eqb}
-use lib.ListN.{length, getD, List·getD-eq-default, List·getD-map}
+use lib.Dec.{T, eqb, lt→ltb}
+use lib.ListN.{length, getD, List·getD-eq-default}
 use lib.IntN.{ℤ, pos, negsuc}
-use lib.Signed.{mag}
 use lib.Pow.{pow-pos}
 use Rattle.algebra.specs.Bounded.{listTo}
 use Rattle.algebra.proofs.Lists.{length-listTo, listTo-at}
-use Rattle.model.specs.Writing.{GameFields, entry, entryZ, setCount, nodeCount, allFit, allFitSigned, isZero, kindFits, sideBySide, numbersFit, gameFieldsFit, planFieldsFit}
+use Rattle.model.specs.Writing.{GameFields, entry, entryZ, setCount, nodeCount, allFit, fitsSigned, allFitSigned, isZero, kindFits, sideBySide, numbersFit, gameFieldsFit, planFieldsFit}
 use Rattle.model.proofs.Decisions.{Decides, itself-iff, eqb-iff, ltb-iff, same-iff, and-iff, all-iff}
 
 -- the number fits the width
 abbrev pub FitsWidth : (width : ℕ) → ℕ → Type 0
 FitsWidth width n = n < 2 ^ width
 
--- the integer is in the range of the width
+-- the integer fits two's complement of the width
 abbrev pub InRange : (width : ℕ) → ℤ → Type 0
-InRange width z = 2 * mag z < 2 ^ width
+InRange width z = T (fitsSigned width z)
 
 -- every entry has the property, and so has d, which stands for a missing one
 abbrev pub Entries : {A : Type 0} → (A → Type 0) → (d : A) → List A → Type 0
 Entries P d l = (i : ℕ) → P (getD l i d)
+
+-- one entry more
+entries-more : {A : Type 0} (P : A → Type 0) (d x : A) (l : List A) → P x → Entries P d l → Entries P d (x ∷ l)
+entries-more P d x l first rest zero = first
+entries-more P d x l first rest (suc i) = rest i
 
 -- a list of `count` such entries
 abbrev pub Column : {A : Type 0} → (A → Type 0) → (d : A) → (count : ℕ) → List A → Type 0
@@ -46,23 +50,18 @@ column P d count f none each = (length-listTo count f, entries)
 pub all-fit-iff : (width : ℕ) (l : List ℕ) → Decides (allFit width l) (Entries (FitsWidth width) 0 l)
 unfolding allFit
 all-fit-iff width [] = record { holds = λ t i. pow-pos width; passes = λ h. tt }
-all-fit-iff width (x ∷ l) = same-iff (λ h. each (h .0) (h .1)) (λ h. (h 0, λ i. h (suc i))) (and-iff (ltb-iff x (2 ^ width)) (all-fit-iff width l))
-  where
-    each : FitsWidth width x → Entries (FitsWidth width) 0 l → Entries (FitsWidth width) 0 (x ∷ l)
-    each first rest zero = first
-    each first rest (suc i) = rest i
+all-fit-iff width (x ∷ l) = same-iff (λ h. entries-more (FitsWidth width) 0 x l (h .0) (h .1)) (λ h. (h 0, λ i. h (suc i))) (and-iff (ltb-iff x (2 ^ width)) (all-fit-iff width l))
 
--- the test of integers is the test of their sizes, doubled
-sizes-are : (width : ℕ) (l : List ℤ) → allFitSigned width l ≡ allFit width (map (λ z. 2 * mag z) l)
-unfolding allFit allFitSigned
-sizes-are width [] = refl
-sizes-are width (z ∷ l) = rw (sizes-are width l)
+-- 0 fits
+pub zero-in-range : (width : ℕ) → InRange width (pos 0)
+unfolding fitsSigned
+zero-in-range width = lt→ltb 0 (2 ^ width) (pow-pos width)
 
 -- a test of every integer
 pub all-in-range-iff : (width : ℕ) (l : List ℤ) → Decides (allFitSigned width l) (Entries (InRange width) (pos 0) l)
-all-in-range-iff width l =
-    rw (sizes-are width l)
-    (same-iff (λ h i. rw (List·getD-map (λ z. 2 * mag z) l i (pos 0)) at (h i)) (λ h i. rw (List·getD-map (λ z. 2 * mag z) l i (pos 0)) (h i)) (all-fit-iff width (map (λ z. 2 * mag z) l)))
+unfolding allFitSigned
+all-in-range-iff width [] = record { holds = λ t i. zero-in-range width; passes = λ h. tt }
+all-in-range-iff width (z ∷ l) = same-iff (λ h. entries-more (InRange width) (pos 0) z l (h .0) (h .1)) (λ h. (h 0, λ i. h (suc i))) (and-iff (itself-iff (fitsSigned width z)) (all-in-range-iff width l))
 
 -- both tests, written between them
 infixl 30 _and_

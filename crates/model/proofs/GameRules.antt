@@ -11,7 +11,8 @@ use Rattle.model.specs.Bits.{field}
 use Rattle.model.specs.Game.{Game, gameOf, nodeAt, isLeaf, isDecision, isChance, inSet, nodeMoves}
 use Rattle.model.specs.Sequences.{Sequence, ownSequence, same}
 use Rattle.model.specs.GameChecks.{isMoveCount, pathLimit, hasHeader, hasEdition, gameLength, hasLength, paddingZero, recordsWellFormed, countsPositive, setMovesInRange, payloadInRange, payloadsInRange, attached, nodesAttached, isChild, shareMove, movesLeadOn, childrenWeight, weightInherited, weightShared, weightsObeyRules, depthIn, depth, pathsInLimit, setsNonEmpty, recallAt, perfectRecall}
-use Rattle.model.specs.Demand1.{ExactlyOne, StandsAt, PathTo, root, down}
+use Rattle.model.specs.Reasons.{IsChildAt, PathTo, root, down}
+use Rattle.model.specs.Demand1.{ExactlyOne}
 use Rattle.model.proofs.Bits.{field-fits}
 use Rattle.model.proofs.Sequences.{same→eq, eq→same}
 use Rattle.model.proofs.Tree.{leaf-moves}
@@ -23,22 +24,22 @@ unfolding isMoveCount
 move-count-iff k = and-iff (leb-iff 1 k) (leb-iff k 64)
 
 -- equal sequences
-sequences-iff : (s t : Sequence) → Decides (same s t) (s ≡ t)
+pub sequences-iff : (s t : Sequence) → Decides (same s t) (s ≡ t)
 sequences-iff s t = record { holds = same→eq s t; passes = eq→same s t }
 
 module _ (g : Game) where
   -- the kind of a leaf
-  leaf-iff : (n : ℕ) → Decides (isLeaf g n) (g .kind n ≡ 0)
+  pub leaf-iff : (n : ℕ) → Decides (isLeaf g n) (g .kind n ≡ 0)
   unfolding isLeaf
   leaf-iff n = eqb-iff (g .kind n) 0
 
   -- the kind of a decision
-  decision-iff : (n : ℕ) → Decides (isDecision g n) (g .kind n ≡ 1)
+  pub decision-iff : (n : ℕ) → Decides (isDecision g n) (g .kind n ≡ 1)
   unfolding isDecision
   decision-iff n = eqb-iff (g .kind n) 1
 
   -- the kind of a chance node
-  chance-iff : (n : ℕ) → Decides (isChance g n) (g .kind n ≡ 2)
+  pub chance-iff : (n : ℕ) → Decides (isChance g n) (g .kind n ≡ 2)
   unfolding isChance
   chance-iff n = eqb-iff (g .kind n) 2
 
@@ -82,11 +83,11 @@ module _ (g : Game) where
   attached-iff some = all-from-iff (attached g) some (and-iff (eqb-iff (g .parent 0) 0) (eqb-iff (g .move 0) 0)) attached-below-iff
 
   -- node c, other than the root, stands at move m of node n
-  abbrev Child : (n m c : ℕ) → Type 0
+  abbrev pub Child : (n m c : ℕ) → Type 0
   Child n m c = (0 < c) × (g .parent c ≡ n) × (g .move c ≡ m)
 
   -- its test
-  child-iff : (n m c : ℕ) → Decides (isChild g n m c) (Child n m c)
+  pub child-iff : (n m c : ℕ) → Decides (isChild g n m c) (Child n m c)
   unfolding isChild
   child-iff n m c =
       same-iff (λ h. (h .0 .0, h .0 .1, h .1)) (λ h. ((h .0, h .1), h .2))
@@ -111,10 +112,10 @@ module _ (g : Game) where
 
   -- "Each move of each inner node leads to exactly one node."
   abbrev LeadOn : Type 0
-  LeadOn = (n m : ℕ) → n < g .nodes → m < nodeMoves g n → ExactlyOne (StandsAt g n m)
+  LeadOn = (n m : ℕ) → n < g .nodes → m < nodeMoves g n → ExactlyOne (IsChildAt g n m)
 
   -- where no two share, no node at a move comes before another
-  not-before : Apart → (n m b c : ℕ) → StandsAt g n m b → StandsAt g n m c → ¬ (b < c)
+  not-before : Apart → (n m b c : ℕ) → IsChildAt g n m b → IsChildAt g n m c → ¬ (b < c)
   not-before apart n m b c s t l = apart c (t .0) b l (s .1, (t .1, t .2 ∙ sym (s .2), t .3 ∙ sym (s .3)))
 
   -- check 9, where every node is attached
@@ -122,9 +123,9 @@ module _ (g : Game) where
   unfolding movesLeadOn
   moves-iff attached = same-iff (λ h n m l k. exactly (h .0) n m (h .1 n l m k)) (λ h. (apart h, met h)) (and-iff apart-iff met-iff)
     where
-      exactly : Apart → (n m : ℕ) → (c : ℕ) × (c < g .nodes) × Child n m c → ExactlyOne (StandsAt g n m)
+      exactly : Apart → (n m : ℕ) → (c : ℕ) × (c < g .nodes) × Child n m c → ExactlyOne (IsChildAt g n m)
       exactly apart n m r =
-          let s : StandsAt g n m (r .0) = (r .1, r .2 .0, r .2 .1, r .2 .2) in
+          let s : IsChildAt g n m (r .0) = (r .1, r .2 .0, r .2 .1, r .2 .2) in
           (r .0, s, λ b t. omega (arith, not-before apart n m b (r .0) t s, not-before apart n m (r .0) b s t))
 
       apart : LeadOn → Apart
@@ -157,7 +158,7 @@ module _ (g : Game) where
 
   module _ (falls : (n : ℕ) → suc n < g .nodes → g .parent (suc n) < suc n) where
     -- a path to a node has as many moves as the node's depth, where the steps are enough
-    path-depth : (steps : ℕ) {n k : ℕ} → n ≤ steps → PathTo g n k → depthIn g steps n ≡ k
+    pub path-depth : (steps : ℕ) {n k : ℕ} → n ≤ steps → PathTo g n k → depthIn g steps n ≡ k
     unfolding depthIn
     path-depth zero l root = refl
     path-depth (suc steps) l root = refl
@@ -165,7 +166,7 @@ module _ (g : Game) where
     path-depth (suc steps) l (down {n} {k} b path) = omega (arith, path-depth steps (omega (arith, falls n b)) path)
 
     -- a path leads to each node, for nodes below a bound
-    some-path : (bound n : ℕ) → n < bound → n < g .nodes → (k : ℕ) × PathTo g n k
+    pub some-path : (bound n : ℕ) → n < bound → n < g .nodes → (k : ℕ) × PathTo g n k
     some-path zero n l b = absurd (omega arith)
     some-path (suc bound) zero l b = (0, root)
     some-path (suc bound) (suc n) l b =

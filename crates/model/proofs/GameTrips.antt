@@ -13,11 +13,12 @@ use Rattle.algebra.specs.Bounded.{joinTo, listTo}
 use Rattle.algebra.proofs.Lists.{length-listTo, listTo-at, listTo-is}
 use Rattle.model.specs.Bits.{field, pack, signed, twosComplement}
 use Rattle.model.specs.Game.{Game, gameOf, setAt, nodeAt, payoffAt, Player, one, two, playerOf, playerBit, isLeaf, isDecision, isChance}
-use Rattle.model.specs.Writing.{GameFields, payoffField, fieldsOf, entry, entryZ, setCount, nodeCount, setBits, payloadBits, nodeBits, headerBits, gameBytes, gameFieldsFit}
+use Rattle.model.specs.Writing.{GameFields, playerField, setField, movesField, payoffField, fieldsOf, entry, entryZ, setCount, nodeCount, setBits, payloadBits, nodeBits, headerBits, gameBytes, gameFieldsFit}
 use Rattle.model.specs.Demand1.{GameFile}
 use Rattle.model.specs.Demand2.{IsBytes}
+use Rattle.model.proofs.Tree.{bit-below, bit-back}
 use Rattle.model.proofs.Bits.{field-fits, signed-fits, twos-fits, twos-signed, signed-twos}
-use Rattle.model.proofs.Fitting.{FitsWidth, InRange, Column, column, Lacks, kind-below, Fitting, game-fields-iff}
+use Rattle.model.proofs.Fitting.{FitsWidth, InRange, zero-in-range, Column, column, Lacks, kind-below, Fitting, game-fields-iff}
 use Rattle.model.proofs.Spelling.{BitList, bitlist-append, bitlist-cells, bitlist-records, Spells, spells-append, Cell, cellBits, cellsWidth, CellsFit, Holds, spells-cells, spells-records, pack-spells, length-pack, pack-is}
 
 module _ (t : GameFields) where
@@ -94,7 +95,7 @@ module _ (t : GameFields) where
 -- the fields of the file are the cells of t
 record Reads (bytes : List ℕ) (t : GameFields) : Type 0 where
   header : Holds bytes 0 0 (headerCells t)
-  set : (h : ℕ) → h < setCount t → Holds bytes (setAt bytes h) 0 (setCells t h)
+  set : (h : ℕ) → h < setCount t → Holds bytes (setAt h) 0 (setCells t h)
   node : (n : ℕ) → n < nodeCount t → Holds bytes (nodeAt bytes n) 0 (nodeCells t n)
 
 -- where node n's record begins, by the number of sets
@@ -141,11 +142,6 @@ module _ (t : GameFields) (fit : Fitting t) where
         (λ r. whole .1 (front .1 (header .1 (r .header), sets .1 (r .set)), nodes .1 (λ n l. rw (node-place bytes (setCount t) (r .header .1 .1 .0) n) at (r .node n l)))),
       )
 
--- the player of a bit, as a bit again
-player-bit : (x : ℕ) → x < 2 → playerBit (playerOf x) ≡ x
-player-bit zero l = refl
-player-bit (suc x) l = omega arith
-
 -- what node n of the game has by its kind is what the lists have
 abbrev Agrees : (g : Game) (t : GameFields) (kind n : ℕ) → Type 0
 Agrees g t kind n =
@@ -185,10 +181,10 @@ module _ (t : GameFields) (fit : Fitting t) (bytes : List ℕ) where
 
   -- what is read of the cells of t is t
   fields-read : Reads bytes t → fieldsOf (gameOf bytes) ≡ t
-  unfolding fieldsOf payoffField gameOf isLeaf isDecision isChance setCount nodeCount
+  unfolding fieldsOf playerField setField movesField payoffField gameOf isLeaf isDecision isChance setCount nodeCount
   fields-read r = λ i. record {
     rootWeight = r .header .1 .1 .1 .0 i;
-    setPlayers = listTo-is 0 _ (t .setPlayers) sets refl (λ h l. ap (λ (x : ℕ). playerBit (playerOf x)) (r .set h l .0) ∙ player-bit (entry (t .setPlayers) h) (fit .setPlayers h)) i;
+    setPlayers = listTo-is 0 _ (t .setPlayers) sets refl (λ h l. ap (λ (x : ℕ). playerBit (playerOf x)) (r .set h l .0) ∙ bit-back (entry (t .setPlayers) h) (fit .setPlayers h)) i;
     setMoves = listTo-is 0 _ (t .setMoves) sets (fit .setMoves .0) (λ h l. r .set h l .1 .0) i;
     kinds = listTo-is 0 _ (t .kinds) nodes refl (λ n l. r .node n l .0) i;
     parents = listTo-is 0 _ (t .parents) nodes (fit .parents .0) (λ n l. r .node n l .1 .0) i;
@@ -213,7 +209,7 @@ module _ (g : Game) where
   -- the lists show H
   set-count : setCount (fieldsOf g) ≡ g .sets
   unfolding fieldsOf setCount
-  set-count = length-listTo (g .sets) (λ h. playerBit (g .setPlayer h))
+  set-count = length-listTo (g .sets) (playerField g)
 
   -- the lists show N
   node-count : nodeCount (fieldsOf g) ≡ g .nodes
@@ -222,18 +218,13 @@ module _ (g : Game) where
 
   -- what node n of the game has by its kind is what its lists have
   fields-agree : (n : ℕ) → n < g .nodes → Agrees g (fieldsOf g) (g .kind n) n
-  unfolding fieldsOf payoffField isLeaf isDecision isChance
+  unfolding fieldsOf playerField setField movesField payoffField isLeaf isDecision isChance
   fields-agree n l = (sym (listTo-at 0 _ _ n l), sym (listTo-at 0 _ _ n l), sym (listTo-at (pos 0) _ _ n l), sym (listTo-at (pos 0) _ _ n l))
 
 -- a test chooses between two that have the property
 cond-all : {A : Type 0} (P : A → Type 0) (b : Bool) {x y : A} → P x → P y → P (cond b x y)
 cond-all P true p q = p
 cond-all P false p q = q
-
--- a player's bit is a bit
-player-fits : (p : Player) → playerBit p < 2
-player-fits one = omega arith
-player-fits two = omega arith
 
 -- the fields of a file
 abbrev fieldsIn : List ℕ → GameFields
@@ -257,13 +248,13 @@ module _ (bytes : List ℕ) (file : GameFile bytes) where
 
   -- the writer takes the fields of the file
   fields-fit : Fitting (fieldsIn bytes)
-  unfolding fieldsOf payoffField gameOf
+  unfolding fieldsOf playerField setField movesField payoffField gameOf
   fields-fit = record {
     sets = rw (set-count g) (field-fits bytes 16 12);
     nodes = rw (node-count g) (field-fits bytes 4 12);
     rootWeight = field-fits bytes 28 12;
-    setPlayers = column (FitsWidth 1) 0 (g .sets) _ (pow-pos 1) (λ h. player-fits (g .setPlayer h)) .1;
-    setMoves = rw (set-count g) (column (FitsWidth 7) 0 (g .sets) _ (pow-pos 7) (λ h. field-fits bytes (setAt bytes h + 1) 7));
+    setPlayers = column (FitsWidth 1) 0 (g .sets) _ (pow-pos 1) (λ h. bit-below (g .setPlayer h)) .1;
+    setMoves = rw (set-count g) (column (FitsWidth 7) 0 (g .sets) _ (pow-pos 7) (λ h. field-fits bytes (setAt h + 1) 7));
     parents = numbers 12 _ (λ n. field-fits bytes (nodeAt bytes n + 2) 12);
     moves = numbers 6 _ (λ n. field-fits bytes (nodeAt bytes n + 14) 6);
     weights = numbers 12 _ (λ n. field-fits bytes (nodeAt bytes n + 20) 12);
@@ -281,18 +272,18 @@ module _ (bytes : List ℕ) (file : GameFile bytes) where
       numbers width f fits = rw (node-count g) (column (FitsWidth width) 0 (g .nodes) f (pow-pos width) fits)
 
       payoffs : (p : Player) → Column (InRange 16) (pos 0) (nodeCount (fieldsOf g)) (listTo (g .nodes) (payoffField g p))
-      payoffs p = rw (node-count g) (column (InRange 16) (pos 0) (g .nodes) (payoffField g p) (pow-pos 16) (λ n. cond-all (InRange 16) (isLeaf g n) (payoff-fits bytes p n) (pow-pos 16)))
+      payoffs p = rw (node-count g) (column (InRange 16) (pos 0) (g .nodes) (payoffField g p) (zero-in-range 16) (λ n. cond-all (InRange 16) (isLeaf g n) (payoff-fits bytes p n) (zero-in-range 16)))
 
   -- the fields of the file are the cells that the writer makes of them
   fields-held : Reads bytes (fieldsIn bytes)
-  unfolding fieldsOf gameOf
+  unfolding fieldsOf playerField gameOf
   fields-held =
       let g = gameOf bytes in
       record {
         header = (file .edition, (sym (node-count g), (sym (set-count g), (refl, tt))));
         set = λ h l.
             let v = rw (set-count g) at l in
-            let player = player-bit (field bytes (setAt bytes h) 1) (field-fits bytes (setAt bytes h) 1) in
+            let player = bit-back (field bytes (setAt h) 1) (field-fits bytes (setAt h) 1) in
             (sym (listTo-at 0 _ _ h v ∙ player), (sym (listTo-at 0 _ _ h v), tt));
         node = λ n l.
             let v = rw (node-count g) at l in

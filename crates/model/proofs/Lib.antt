@@ -8,7 +8,7 @@ pub mod Demand2
 pub mod Demand3
 pub mod Duality
 pub mod Earnings
-pub mod Files
+pub mod Fields
 pub mod Fitting
 pub mod Flow
 pub mod GameRules
@@ -18,6 +18,8 @@ pub mod Overall
 pub mod Packing
 pub mod PlanRules
 pub mod PlanTrips
+pub mod Reached
+pub mod Reasons
 pub mod Recall
 pub mod Refusals
 pub mod RoundTrips

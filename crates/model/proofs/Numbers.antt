@@ -1,18 +1,22 @@
 -- The numbers of a player's sequences: below their count, and no two the same. All sets' moves are fewer than the nodes.
-use Prim.Native.Nat.{ℕ, suc, _+_, _≤_, _<_}
+use Prim.Native.Nat.{ℕ, zero, suc, _+_, _≤_, _<_}
 use mathlib.Core.Path.{_≡_, refl, sym, ap, _∙_}
-use mathlib.Core.Logic.{_↔_}
-use mathlib.Core.Bool.{not, cond}
+use mathlib.Core.Bool.{Bool, true, false, not, cond}
+use mathlib.Core.List.{List, [], _∷_, _++_}
 use native.Mathlib.Omega.{arith}
 use native.Mathlib.Decide.{ℕ-discrete, decLt}
 use lib.Dec.{T, eqb, eqb→eq, ltb, lt→ltb, T-not}
-use Rattle.algebra.specs.Bounded.{countTo}
+use lib.ListN.{length, getD, length-append, List·getD-append}
+use lib.Seq.{getD-append-add}
+use Rattle.algebra.specs.Bounded.{countTo, joinTo, listTo}
 use Rattle.algebra.proofs.Tests.{cond-yes, cond-no}
 use Rattle.algebra.proofs.Counts.{only, only-most, only-swap, count-suc, count-cong, count-le, count-zero, count-ones, count-plus, count-swap, count-less, count-one, count-pick, count-key, count-split}
+use Rattle.algebra.proofs.Lists.{length-listTo, listTo-at}
 use Rattle.model.specs.Game.{Game, Player, one, two, samePlayer, owns, nodeMoves, movesBefore}
 use Rattle.model.specs.Sequences.{Sequence, extended, ownSequence, firstNode, leading, moveNumber, sequenceNumber, sequenceCount}
 use Rattle.model.specs.Table.{ownNumber}
 use Rattle.model.specs.Demand1.{GameRules}
+use Rattle.model.specs.Demand2.{sequencesOf, sequenceAt}
 use Rattle.model.proofs.Sequences.{number-empty, number-extended}
 use Rattle.model.proofs.Tree.{IsSequence, empty, after, parent-in, first-in, first-set, own-sequence, children}
 
@@ -59,11 +63,58 @@ module _ (g : Game) (p : Player) where
       let d = number-move h m k n o o′ b b′ (sym (number-extended g p (leading g h) h m) ∙ e ∙ number-extended g p (leading g k) k n) in
       λ i. extended (leading g (d .0 i)) (d .0 i) (d .1 i)
 
+-- how long joined lists are together
+length-joined {ℓ} : {A : Type ℓ} (n : ℕ) (f : ℕ → List A) → length (joinTo n f) ≡ countTo n (λ i. length (f i))
+unfolding joinTo countTo
+length-joined zero f = refl
+length-joined (suc n) f = length-append (joinTo n f) (f n) ∙ ap (λ (k : ℕ). k + length (f n)) (length-joined n f)
+
+-- and where the elements of one of them stand
+joined-at {ℓ} : {A : Type ℓ} (d : A) (n : ℕ) (f : ℕ → List A) (h m : ℕ) → h < n → m < length (f h) → getD (joinTo n f) (countTo h (λ i. length (f i)) + m) d ≡ getD (f h) m d
+unfolding joinTo
+joined-at d zero f h m l b = absurd (omega arith)
+joined-at {A = A} d (suc n) f h m l b =
+    let size : ℕ → ℕ = λ i. length (f i) in
+    elim (ℕ-discrete h n) [
+      | yes e ↦ ap (λ (k : ℕ). getD (joinTo n f ++ f n) (k + m) d) (ap (λ (k : ℕ). countTo k size) e ∙ sym (length-joined n f)) ∙ getD-append-add (joinTo n f) (f n) m d ∙ ap (λ (k : ℕ). getD (f k) m d) (sym e)
+      | no e ↦ List·getD-append (joinTo n f) (f n) d (countTo h size + m) (omega (arith, length-joined n f, count-less n (suc h) size (omega arith), count-suc h size)) ∙ joined-at d n f h m (omega arith) b
+    ]
+
+module _ (g : Game) (p : Player) where
+  -- the sequences that end in a move of set h, where it is p's
+  abbrev ending : ℕ → List Sequence
+  ending h = cond (owns g p h) (listTo (g .setMoves h) (extended (leading g h) h)) []
+
+  -- they are as many as its moves
+  length-ending : (h : ℕ) → length (ending h) ≡ cond (owns g p h) (g .setMoves h) 0
+  length-ending h = go (owns g p h)
+    where
+      go : (b : Bool) → length (cond b (listTo (g .setMoves h) (extended (leading g h) h)) []) ≡ cond b (g .setMoves h) 0
+      go true = length-listTo (g .setMoves h) (extended (leading g h) h)
+      go false = refl
+
+  -- a move's sequence stands at its number
+  move-place : (h m : ℕ) → h < g .sets → T (owns g p h) → m < g .setMoves h → getD ([] ∷ joinTo (g .sets) ending) (moveNumber g p (h, m)) [] ≡ extended (leading g h) h m
+  unfolding moveNumber movesBefore
+  move-place h m l o b =
+      let own : ending h ≡ listTo (g .setMoves h) (extended (leading g h) h) = cond-yes (owns g p h) _ _ o in
+      let before : countTo h (λ i. length (ending i)) ≡ movesBefore g p h = count-cong h _ _ (λ i v. length-ending i) in
+      let number : moveNumber g p (h, m) ≡ suc (countTo h (λ i. length (ending i)) + m) = omega (arith, before) in
+      ap (λ (k : ℕ). getD ([] ∷ joinTo (g .sets) ending) k []) number
+      ∙ joined-at [] (g .sets) ending h m l (omega (arith, length-ending h, cond-yes (owns g p h) (g .setMoves h) 0 o))
+      ∙ rw own (listTo-at [] (g .setMoves h) (extended (leading g h) h) m b)
+
+  -- so does each of p's sequences
+  number-place : (s : Sequence) → IsSequence g p s → sequenceAt g p (sequenceNumber g p s) ≡ s
+  unfolding sequenceAt sequencesOf
+  number-place s empty = rw (number-empty g p)
+  number-place s (after {h = h} {m = m} l o b) = rw (number-extended g p (leading g h) h m) (move-place h m l o b)
+
 module _ (g : Game) (R : GameRules g) where
-  -- two nodes have the same own sequence exactly when its number is the same
-  pub by-number : (p : Player) (n m : ℕ) → n < g .nodes → m < g .nodes → (ownSequence g p n ≡ ownSequence g p m) ↔ (ownNumber g p n ≡ ownNumber g p m)
+  -- the number of an own sequence is its place among the player's
+  pub own-number-place : (p : Player) (n : ℕ) → n < g .nodes → sequenceAt g p (ownNumber g p n) ≡ ownSequence g p n
   unfolding ownNumber
-  by-number p n m l k = (λ e. ap (sequenceNumber g p) e, λ e. number-same g p (ownSequence g p n) (ownSequence g p m) (own-sequence g R p n l) (own-sequence g R p m k) e)
+  own-number-place p n l = number-place g p (ownSequence g p n) (own-sequence g R p n l)
 
   -- the number of an own sequence is below their count
   pub own-number-below : (p : Player) (n : ℕ) → n < g .nodes → ownNumber g p n < sequenceCount g p

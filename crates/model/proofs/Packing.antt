@@ -1,14 +1,12 @@
 -- Lists of bits taken apart: the bits of a number in two parts, a run bit by bit, and whole bytes packed one after the other.
 use Prim.Native.Nat.{ℕ, zero, suc, _+_, _*_, _-_, _/_, _%_, _^_, _≤_, _<_}
-use mathlib.Core.Path.{_≡_, refl, sym, _∙_}
+use mathlib.Core.Path.{_≡_, sym, _∙_}
 use mathlib.Core.List.{List, [], _∷_, _++_, flatMap}
 use native.Mathlib.Omega.{arith}
 use native.Mathlib.Nat as NatL
 use lib.ListN.{length, getD, drop, length-append, length-drop, List·getD-append, List·getD-eq-default}
 use lib.Seq.{getD-append-add, drop-append-le, ext-getD}
 use lib.Pow.{pow-pos, pow-add, shr-shr, high}
-use Rattle.algebra.specs.Bounded.{joinTo}
-use Rattle.algebra.proofs.Lists.{length-joinTo}
 use Rattle.model.specs.Bits.{numeral, bits, runBits, packed, pack}
 use Rattle.model.proofs.Bits.{numeral-cong, length-bits, bits-at}
 use Rattle.model.proofs.Spelling.{bitlist-run}
@@ -83,11 +81,3 @@ pack-append k a b e =
     let all : (length (a ++ b) + 7) / 8 ≡ k + (length b + 7) / 8 = omega (arith, length-append a b) in
     let first : (length a + 7) / 8 ≡ k = omega arith in
     rw (all, first) (packed-append k ((length b + 7) / 8) a b e)
-
--- records of whole bytes are packed one by one
-pub pack-joinTo : (k n : ℕ) (f : ℕ → List ℕ) → ((i : ℕ) → i < n → length (f i) ≡ 8 * k) → pack (joinTo n f) ≡ joinTo n (λ i. pack (f i))
-unfolding joinTo pack packed
-pack-joinTo k zero f e = refl
-pack-joinTo k (suc n) f e =
-    let size : length (joinTo n f) ≡ 8 * (k * n) = length-joinTo (8 * k) n f (λ i l. e i (omega arith)) ∙ NatL.mul-assoc 8 k n in
-    rw (pack-append (k * n) (joinTo n f) (f n) size, pack-joinTo k n f (λ i l. e i (omega arith)))

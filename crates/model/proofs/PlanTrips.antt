@@ -9,7 +9,7 @@ use lib.ListN.{length}
 use lib.Pow.{pow-pos}
 use Rattle.model.specs.Bits.{field, fields, runBits, pack}
 use Rattle.model.specs.Game.{Game, one, two}
-use Rattle.model.specs.Plan.{planMoves, planPairOf, planWeights}
+use Rattle.model.specs.Plan.{planMoves, planPairOf, planWeights, weightBit}
 use Rattle.model.specs.Writing.{planBytes, planFieldsFit}
 use Rattle.model.specs.Demand1.{PlanFile}
 use Rattle.model.specs.Demand2.{IsBytes}
@@ -51,7 +51,7 @@ module _ (d1 d2 : ℕ) (weights : List ℕ) where
 
   -- what the writer takes is read back as it was given
   pub plan-fields-trip : (g : Game) → T (planFieldsFit d1 d2 weights) → PlanFile g (planBytes d1 d2 weights) → let q = planPairOf g (planBytes d1 d2 weights) in (q one .denominator ≡ d1) × (q two .denominator ≡ d2) × (planWeights g (planBytes d1 d2 weights) ≡ weights)
-  unfolding planPairOf planWeights
+  unfolding planPairOf planWeights weightBit
   plan-fields-trip g ok file =
       let (header, run) = spells-plan (plan-fields-iff d1 d2 weights .holds ok) (planBytes d1 d2 weights) .0 (rw plan-is (pack-spells planBits bitlist-plan)) in
       let count : planMoves g ≡ length weights = omega (arith, file .size, length-plan) in
@@ -64,7 +64,7 @@ fields-fit bytes count = (field-fits bytes 4 12, (field-fits bytes 16 12, column
 
 -- the fields of a plan that obeys the rules are taken, and give its bytes again
 pub plan-file-trip : (g : Game) (bytes : List ℕ) → IsBytes bytes → PlanFile g bytes → let q = planPairOf g bytes in let w = planWeights g bytes in T (planFieldsFit (q one .denominator) (q two .denominator) w) × (planBytes (q one .denominator) (q two .denominator) w ≡ bytes)
-unfolding planPairOf planWeights
+unfolding planPairOf planWeights weightBit
 plan-file-trip g bytes small file =
     let d1 = field bytes 4 12 in
     let d2 = field bytes 16 12 in

@@ -5,11 +5,12 @@ use mathlib.Core.Logic.{_↔_, Iff·symm, Iff·trans, Iff·and, _⊎_, inl, inr}
 use mathlib.Core.Bool.{Bool, true, false, not, _&&_, cond}
 use mathlib.Core.List.{List, [], _∷_, _++_}
 use lib.Dec.{T, eqb, ltb, eqb→eq, ltb→lt, T-not}
-use mir.Facts.{and-yes}
+use mir.Facts.{and-yes, yes-and}
 use Rattle.algebra.proofs.Tests.{dec, cond-yes, cond-no, eqb-make}
 use Rattle.model.specs.Refusals.{Checks, firstFailing, along, numbers}
-use Rattle.model.specs.Demand1.{FirstRefusal, Answers}
-use Rattle.model.proofs.Decisions.{Decides}
+use Rattle.model.specs.Reasons.{Reasons, FirstThatApplies, ofPart}
+use Rattle.model.specs.Demand1.{Answers}
+use Rattle.model.proofs.Decisions.{Decides, Fails}
 
 -- no refusal's number is 0, which says that there is none
 abbrev pub nonzero : List ℕ → Bool
@@ -103,39 +104,81 @@ unfolding numbers along
 numbers-along part [] = refl
 numbers-along part (c ∷ rest) = ap (λ (l : List ℕ). c .0 ∷ l) (numbers-along part rest)
 
--- the refusal given is that of the first check that fails
-pub first-refusal : {A : Type 0} (checks : Checks A) (a : A) → FirstRefusal checks a (firstFailing checks a)
+-- Both tables have the same numbers, and each test fails exactly where its refusal applies, where the earlier tests pass.
+abbrev pub Agree : {A : Type 0} → Checks A → Reasons A → A → Type 0
+Agree [] [] a = Unit {0}
+Agree [] (r ∷ reasons) a = ⊥
+Agree (c ∷ checks) [] a = ⊥
+Agree (c ∷ checks) (r ∷ reasons) a = (c .0 ≡ r .0) × Fails ((c .1) a) ((r .1) a) × (T ((c .1) a) → Agree checks reasons a)
+
+-- then the first failing check is the first refusal that applies
+pub first-applies : {A : Type 0} (checks : Checks A) (reasons : Reasons A) (a : A) → Agree checks reasons a → FirstThatApplies reasons a (firstFailing checks a)
 unfolding firstFailing
-first-refusal [] a = refl
-first-refusal (c ∷ rest) a = go ((c .1) a) (first-refusal rest a)
+first-applies [] [] a d = refl
+first-applies [] (r ∷ reasons) a d = absurd d
+first-applies (c ∷ checks) [] a d = absurd d
+first-applies (c ∷ checks) (r ∷ reasons) a d = go ((c .1) a) (d .1) (λ t. first-applies checks reasons a (d .2 t))
   where
-    go : (b : Bool) → FirstRefusal rest a (firstFailing rest a) → (¬ T b × (cond b (firstFailing rest a) (c .0) ≡ c .0)) ⊎ (T b × FirstRefusal rest a (cond b (firstFailing rest a) (c .0)))
-    go true later = inr (tt, later)
-    go false later = inl (λ t. t, refl)
+    go : (b : Bool) → Fails b ((r .1) a) → (T b → FirstThatApplies reasons a (firstFailing checks a)) → (((r .1) a) × (cond b (firstFailing checks a) (c .0) ≡ r .0)) ⊎ (¬ (r .1) a × FirstThatApplies reasons a (cond b (firstFailing checks a) (c .0)))
+    go true f later = inr (λ h. f .fails h tt, later tt)
+    go false f later = inl (f .applies (λ t. t), d .0)
 
--- the answers of one check
-pub answers-one : {A : Type 0} {Good : A → Type 0} (k : ℕ) (test : A → Bool) → T (nonzero (k ∷ [])) → ((a : A) → Decides (test a) (Good a)) → Answers ((k, test) ∷ []) Good (k ∷ [])
+-- tables joined
+pub agree-append : {A : Type 0} (c d : Checks A) (r s : Reasons A) (a : A) → Agree c r a → (AllPass c a → Agree d s a) → Agree (c ++ d) (r ++ s) a
+agree-append [] d [] s a h k = k tt
+agree-append [] d (x ∷ r) s a h k = absurd h
+agree-append (x ∷ c) d [] s a h k = absurd h
+agree-append (x ∷ c) d (y ∷ r) s a h k = (h .0, h .1, λ t. agree-append c d r s a (h .2 t) (λ p. k (t, p)))
+
+-- tables made of a part
+pub agree-part : {A B : Type 0} (part : B → A) (c : Checks A) (r : Reasons A) (b : B) → Agree c r (part b) → Agree (along part c) (ofPart part r) b
+unfolding along ofPart
+agree-part part [] [] b h = tt
+agree-part part [] (r ∷ reasons) b h = absurd h
+agree-part part (c ∷ checks) [] b h = absurd h
+agree-part part (c ∷ checks) (r ∷ reasons) b h = (h .0, h .1, λ t. agree-part part checks reasons b (h .2 t))
+
+-- no number of two tables joined is 0 where none of either is
+nonzero-append : (k l : List ℕ) → T (nonzero k) → T (nonzero l) → T (nonzero (k ++ l))
+nonzero-append [] l n m = m
+nonzero-append (x ∷ k) l n m =
+    let h = and-yes (not (eqb x 0)) (nonzero k) n in
+    yes-and (not (eqb x 0)) (nonzero (k ++ l)) (h .0) (nonzero-append k l (h .1) m)
+
+-- What tables that are joined keep: from it follows what demand 1 says of an entry point.
+pub record Answering {A : Type 0} (checks : Checks A) (Good : A → Type 0) (reasons : Reasons A) : Type 0 where
+  pub named : T (nonzero (numbers checks))
+  pub taken : (a : A) → Good a ↔ (firstFailing checks a ≡ 0)
+  pub agrees : (a : A) → Agree checks reasons a
+
+-- the answers of an entry point
+pub answers : {A : Type 0} {checks : Checks A} {Good : A → Type 0} {reasons : Reasons A} → Answering checks Good reasons → Answers checks Good reasons
+answers {checks = checks} {reasons = reasons} this = record {
+  taken = this .taken;
+  first = λ a. first-applies checks reasons a (this .agrees a);
+}
+
+-- one check
+pub answering-one : {A : Type 0} {Good Applies : A → Type 0} (k : ℕ) (test : A → Bool) → T (nonzero (k ∷ [])) → ((a : A) → Decides (test a) (Good a)) → ((a : A) → Fails (test a) (Applies a)) → Answering ((k, test) ∷ []) Good ((k, Applies) ∷ [])
 unfolding numbers
-answers-one k test n decides = record {
-  in-order = refl;
+answering-one k test n decides fails = record {
+  named = n;
   taken = λ a. Iff·symm (Iff·trans (none-fails ((k, test) ∷ []) a n) (λ t. decides a .holds (t .0), λ h. (decides a .passes h, tt)));
-  first = first-refusal ((k, test) ∷ []);
+  agrees = λ a. (refl, fails a, λ t. tt);
 }
 
--- the answers of checks made of a part
-pub answers-along : {A B : Type 0} {Good : A → Type 0} {ks : List ℕ} (part : B → A) (checks : Checks A) → Answers checks Good ks → Answers (along part checks) (λ b. Good (part b)) ks
-answers-along part checks given = record {
-  in-order = numbers-along part checks ∙ given .in-order;
-  taken = λ b. rw (first-along part checks b) (given .taken (part b));
-  first = first-refusal (along part checks);
+-- checks made of a part
+pub answering-along : {A B : Type 0} {Good : A → Type 0} (part : B → A) (checks : Checks A) (reasons : Reasons A) → Answering checks Good reasons → Answering (along part checks) (λ b. Good (part b)) (ofPart part reasons)
+answering-along part checks reasons this = record {
+  named = subst (λ (l : List ℕ). T (nonzero l)) (sym (numbers-along part checks)) (this .named);
+  taken = λ b. rw (first-along part checks b) (this .taken (part b));
+  agrees = λ b. agree-part part checks reasons b (this .agrees (part b));
 }
 
--- the answers of two tables joined
-pub answers-append : {A : Type 0} {Good Fine : A → Type 0} {ks ls : List ℕ} (c d : Checks A) → T (nonzero ks) → Answers c Good ks → Answers d Fine ls → Answers (c ++ d) (λ a. Good a × Fine a) (ks ++ ls)
-answers-append c d n this later =
-    let m = subst (λ (l : List ℕ). T (nonzero l)) (sym (this .in-order)) n in
-    record {
-      in-order = numbers-append c d ∙ (λ i. this .in-order i ++ later .in-order i);
-      taken = λ a. Iff·trans (Iff·and (this .taken a) (later .taken a)) (Iff·symm (none-append c d a m));
-      first = first-refusal (c ++ d);
-    }
+-- two tables joined
+pub answering-append : {A : Type 0} {Good Fine : A → Type 0} (c d : Checks A) (r s : Reasons A) → Answering c Good r → Answering d Fine s → Answering (c ++ d) (λ a. Good a × Fine a) (r ++ s)
+answering-append c d r s this later = record {
+  named = subst (λ (l : List ℕ). T (nonzero l)) (sym (numbers-append c d)) (nonzero-append (numbers c) (numbers d) (this .named) (later .named));
+  taken = λ a. Iff·trans (Iff·and (this .taken a) (later .taken a)) (Iff·symm (none-append c d a (this .named)));
+  agrees = λ a. agree-append c d r s a (this .agrees a) (λ p. later .agrees a);
+}

@@ -11,7 +11,7 @@ use Rattle.model.specs.Game.{Game, Player, one, two, other, owns, isLeaf
 use Rattle.model.specs.Sequences.{Sequence, extended, leading}
 use Rattle.model.specs.Plan.{RealizationPlan, PlanPair, weightAt}
 use Rattle.model.specs.Earnings.{leafTerm, valueTerm, valueCount}
-use Rattle.model.specs.BestResponse.{leadsTo, greatestMove, leavesWorth, worthIn, worth, setWorth, bestCount, bestMove, bestAt, bestResponse}
+use Rattle.model.specs.BestResponse.{leadsTo, greatestWorth, leavesWorth, worthIn, worth, setWorth, bestCount, bestMove, bestAt, bestResponse}
 use Rattle.model.specs.Verdict.{scaledBest, gain, deviates, verdict}
 use Rattle.model.proofs.Worths.{greatest-cong}
 
@@ -36,7 +36,7 @@ module _ (g : Game) (p : Player) (y z : RealizationPlan) (same : SameWeights g (
   unfolding worthIn
   worth-in-agrees zero s = refl
   worth-in-agrees (suc steps) s =
-      let sets : sumWhere (g .sets) (leadsTo g p s) (greatestMove g (worthIn g p y steps)) ≡ sumWhere (g .sets) (leadsTo g p s) (greatestMove g (worthIn g p z steps)) =
+      let sets : sumWhere (g .sets) (leadsTo g p s) (greatestWorth g (worthIn g p y steps)) ≡ sumWhere (g .sets) (leadsTo g p s) (greatestWorth g (worthIn g p z steps)) =
       where-cong (g .sets) (leadsTo g p s) _ _ (λ h l t. greatest-cong g (worthIn g p y steps) (worthIn g p z steps) h (λ m. worth-in-agrees steps (extended (leading g h) h m))) in
       rw (leaves-worth-agrees s, sets)
 

@@ -98,15 +98,10 @@ module _ (g : Game) (R : GameRules g) (p : Player) where
   unfolding pureCount
   pure-agree y σ τ e = where-tests (g .nodes) _ _ (leafTerm g p y) (λ n l. ap (λ (b : Bool). isLeaf g n && b) (agree-below σ τ e (suc n) n (omega arith) l))
 
-  -- every player has a pure strategy: move 0 everywhere
-  pub some-pure : IsPure g p (λ h. 0)
-  unfolding IsPure
-  some-pure h l o = R .set-moves h l .0
-
 -- a mixed strategy of one part earns what the part earns
 pub mixed-of-one : (g : Game) (p : Player) (y : RealizationPlan) (w : ℕ) (σ : PureStrategy) → Equal (mixedEarnings g p y ((w, σ) ∷ [])) (pureEarnings g p y σ)
 unfolding mixedEarnings pureEarnings mixedCount totalWeight
 mixed-of-one g p y w σ =
-    let E = againstBase g p y in
+    let E = againstBase g y in
     rw (+ℤ-idr (pos w *ℤ pureCount g p y σ), NatL.add-zero w)
     (scale-scale E w (pureCount g p y σ) ∙ ap (λ (k : ℕ). pos k *ℤ pureCount g p y σ) (NatL.mul-comm E w))

@@ -12,13 +12,13 @@ use Rattle.algebra.proofs.Searches.{anyTo-make}
 use Rattle.algebra.proofs.Integers.{scale-scale}
 use Rattle.algebra.proofs.Sums.{onlyZ, sum-cong, sum-zero, sum-swap, sum-pick, whereZ-is, where-cong, where-none, where-scale}
 use Rattle.model.specs.Game.{Game, Player, one, two, isLeaf}
-use Rattle.model.specs.Sequences.{sequenceCount}
-use Rattle.model.specs.Plan.{PlanPair, weightAt}
-use Rattle.model.specs.Table.{Row, ownNumber, standsAt, weighedPayoff, pairSum, rowAt, rowsAt, payoffTable}
+use Rattle.model.specs.Sequences.{sequenceCount, ownSequence}
+use Rattle.model.specs.Plan.{PlanPair, weightAt, RealizationPlan, sequenceWeight}
+use Rattle.model.specs.Table.{Row, ownNumber, standsAt, weightedPayoff, pairSum, rowAt, rowsAt, payoffTable}
 use Rattle.model.specs.Earnings.{valueTerm, valueCount}
 use Rattle.model.specs.Demand1.{GameRules}
-use Rattle.model.specs.Demand2.{sumOf, tableSum, ByNumber}
-use Rattle.model.proofs.Numbers.{own-number-below}
+use Rattle.model.specs.Demand2.{sumOf, tableSum, numberWeight}
+use Rattle.model.proofs.Numbers.{own-number-below, own-number-place}
 
 -- the sum over joined rows
 table-append : (p : Player) (x y : ℕ → ℕ) (a b : List Row) → tableSum p x y (a ++ b) ≡ tableSum p x y a +ℤ tableSum p x y b
@@ -40,10 +40,14 @@ stands-parts g s t n u =
     let c = and-yes (isLeaf g n && a) b u in
     (eqb→eq (ownNumber g one n) s (and-yes (isLeaf g n) a (c .0) .1), eqb→eq (ownNumber g two n) t (c .1))
 
+-- the weights x are the plan's, by the numbers of p's own sequences
+abbrev pub ByNumber : Game → Player → RealizationPlan → (ℕ → ℕ) → Type 0
+ByNumber g p plan x = (n : ℕ) → n < g .nodes → x (ownNumber g p n) ≡ sequenceWeight plan (ownSequence g p n)
+
 module _ (g : Game) (R : GameRules g) (q : PlanPair) (x y : ℕ → ℕ) (x-is : ByNumber g one (q one) x) (y-is : ByNumber g two (q two) y) (p : Player) where
   -- a leaf of the pair, in the table's sum and in the value
-  term : (s t n : ℕ) → n < g .nodes → T (standsAt g s t n) → pos (x s * y t) *ℤ weighedPayoff g p n ≡ valueTerm g q p n
-  unfolding weighedPayoff valueTerm weightAt
+  term : (s t n : ℕ) → n < g .nodes → T (standsAt g s t n) → pos (x s * y t) *ℤ weightedPayoff g p n ≡ valueTerm g q p n
+  unfolding weightedPayoff valueTerm weightAt
   term s t n l u =
       let e = stands-parts g s t n u in
       let ex : x s ≡ weightAt g (q one) one n = ap x (sym (e .0)) ∙ x-is n l in
@@ -56,7 +60,7 @@ module _ (g : Game) (R : GameRules g) (q : PlanPair) (x y : ℕ → ℕ) (x-is :
   pair-sum : (s t : ℕ) → pos (x s * y t) *ℤ pairSum g p s t ≡ sumWhere (g .nodes) (standsAt g s t) (valueTerm g q p)
   unfolding pairSum
   pair-sum s t =
-      where-scale (g .nodes) (x s * y t) (standsAt g s t) (weighedPayoff g p)
+      where-scale (g .nodes) (x s * y t) (standsAt g s t) (weightedPayoff g p)
       ∙ where-cong (g .nodes) (standsAt g s t) _ (valueTerm g q p) (λ n l u. term s t n l u)
 
   -- a pair has its row, or no leaf
@@ -99,3 +103,8 @@ module _ (g : Game) (R : GameRules g) (q : PlanPair) (x y : ℕ → ℕ) (x-is :
       ∙ sum-swap S N (λ s n. sumTo U (λ t. F s t n))
       ∙ sum-cong N _ _ (λ n l. leaf-once n (valueTerm g q p n) l)
       ∙ sym (whereZ-is N (isLeaf g) (valueTerm g q p))
+
+-- the plans' own weights by number do
+pub number-weights : (g : Game) → GameRules g → (p : Player) (x : RealizationPlan) → ByNumber g p x (numberWeight g p x)
+unfolding numberWeight
+number-weights g R p x n l = ap (sequenceWeight x) (own-number-place g R p n l)

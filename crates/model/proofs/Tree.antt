@@ -11,10 +11,11 @@ use Rattle.algebra.specs.Bounded.{countTo}
 use Rattle.algebra.proofs.Tests.{cond-yes, cond-no, eqb-make}
 use Rattle.algebra.proofs.Searches.{firstTo-found, firstTo-least}
 use Rattle.algebra.proofs.Counts.{only, count-cong, count-zero, count-one, count-swap, count-pick}
-use Rattle.model.specs.Game.{Game, Player, one, two, other, samePlayer, owns, isLeaf, isDecision, isChance, inSet, nodeMoves}
+use Rattle.model.specs.Game.{Game, Player, one, two, other, samePlayer, playerOf, playerBit, owns, isLeaf, isDecision, isChance, inSet, nodeMoves}
 use Rattle.model.specs.Sequences.{Sequence, extended, acts, walk, ownSequence, firstNode, leading}
 use Rattle.model.specs.GameChecks.{isChild}
-use Rattle.model.specs.Demand1.{ExactlyOne, StandsAt, GameRules}
+use Rattle.model.specs.Reasons.{IsChildAt}
+use Rattle.model.specs.Demand1.{ExactlyOne, GameRules}
 use Rattle.model.proofs.Sequences.{extended-length}
 
 -- players that pass the test are the same
@@ -33,6 +34,23 @@ player-refl two = tt
 pub not-other : (p : Player) → ¬ T (samePlayer (other p) p)
 not-other one t = t
 not-other two t = t
+
+-- a player's bit tells the player
+pub bit-tells : (p r : Player) → eqb (playerBit r) (playerBit p) ≡ samePlayer p r
+bit-tells one one = refl
+bit-tells one two = refl
+bit-tells two one = refl
+bit-tells two two = refl
+
+-- it is 0 or 1
+pub bit-below : (p : Player) → playerBit p < 2
+bit-below one = omega arith
+bit-below two = omega arith
+
+-- and each of these is some player's
+pub bit-back : (b : ℕ) → b < 2 → playerBit (playerOf b) ≡ b
+bit-back zero l = refl
+bit-back (suc b) l = omega arith
 
 -- a set's player is the one who owns it
 pub owner : (g : Game) (p : Player) (h : ℕ) → T (owns g p h) → g .setPlayer h ≡ p
@@ -238,13 +256,13 @@ module _ (g : Game) (R : GameRules g) where
       spread : (c : ℕ) → c < g .nodes → only (below g n c) (f (g .move c)) ≡ countTo (nodeMoves g n) (λ m. only (isChild g n m c) (f m))
       spread c k = by-move c (below g n c) (in-range c k)
 
-      stands : (m c : ℕ) → c < g .nodes → T (isChild g n m c) → StandsAt g n m c
+      stands : (m c : ℕ) → c < g .nodes → T (isChild g n m c) → IsChildAt g n m c
       stands m c k t =
           let a = and-yes (below g n c) (eqb (g .move c) m) t in
           let b = below-is g n c (a .0) in
           (k, b .0, b .1, eqb→eq (g .move c) m (a .1))
 
-      gather : (m : ℕ) → ExactlyOne (StandsAt g n m) → countTo (g .nodes) (λ i. only (isChild g n m i) (f m)) ≡ f m
+      gather : (m : ℕ) → ExactlyOne (IsChildAt g n m) → countTo (g .nodes) (λ i. only (isChild g n m i) (f m)) ≡ f m
       gather m e =
           let c = e .0 in
           let s = e .1 in

@@ -12,12 +12,12 @@ use lib.IntN.{ℤ, _+ℤ_, natAbs}
 use Rattle.algebra.specs.Bounded.{countTo, sumWhere}
 use Rattle.algebra.proofs.Tests.{dec, cond-yes, cond-no}
 use Rattle.algebra.proofs.Ranges.{abs-add, abs-where, abs-max}
-use Rattle.algebra.proofs.Counts.{only, only-le, only-most, count-cong, count-le, count-zero, count-plus, count-scale, count-swap, count-less, count-single, where-is}
+use Rattle.algebra.proofs.Counts.{only, only-le, only-most, count-cong, count-le, count-zero, count-plus, count-scale, count-swap, count-less, count-single}
 use Rattle.model.specs.Game.{Game, Player, isLeaf}
 use Rattle.model.specs.Sequences.{Sequence, extended, sameMove, same, ownSequence, leading}
 use Rattle.model.specs.Plan.{RealizationPlan}
 use Rattle.model.specs.Earnings.{leafTerm}
-use Rattle.model.specs.BestResponse.{leadsTo, greatestMove, leavesWorth, worthIn}
+use Rattle.model.specs.BestResponse.{leadsTo, greatestWorth, leavesWorth, worthIn}
 use Rattle.model.proofs.Sequences.{same→eq}
 use Rattle.model.proofs.Worths.{leads-parts}
 
@@ -137,7 +137,7 @@ module _ (g : Game) (p : Player) (y : RealizationPlan) where
   unfolding leafSize
   leaves-prefix s k l =
       let f : ℕ → ℕ = λ n. only (isLeaf g n && same (ownSequence g p n) s) (natAbs (leafTerm g p y n)) in
-      omega (arith, abs-where k (λ n. isLeaf g n && same (ownSequence g p n) s) (leafTerm g p y), where-is k (λ n. isLeaf g n && same (ownSequence g p n) s) (λ n. natAbs (leafTerm g p y n)), count-less (g .nodes) k f l, count-cong (g .nodes) f (λ n. leafSize n * only (same (ownSequence g p n) s) 1) (λ n v. split (isLeaf g n) (same (ownSequence g p n) s) (natAbs (leafTerm g p y n))))
+      omega (arith, abs-where k (λ n. isLeaf g n && same (ownSequence g p n) s) (leafTerm g p y), count-less (g .nodes) k f l, count-cong (g .nodes) f (λ n. leafSize n * only (same (ownSequence g p n) s) 1) (λ n v. split (isLeaf g n) (same (ownSequence g p n) s) (natAbs (leafTerm g p y n))))
 
   -- the sizes of the moves that s leads to, leaf by leaf
   sizes-on : (s : Sequence) → countTo (g .sets) (λ h. only (leadsTo g p s h) (countTo (g .setMoves h) (λ m. size (extended (leading g h) h m)))) ≡ countTo (g .nodes) (λ n. leafSize n * goingOn g p s (ownSequence g p n))
@@ -156,8 +156,8 @@ module _ (g : Game) (p : Player) (y : RealizationPlan) where
 
   module _ (some : (h : ℕ) → h < g .sets → 0 < g .setMoves h) where
     -- a set's worth is no larger than its moves together
-    greatest-size : (f : Sequence → ℤ) → ((r : Sequence) → natAbs (f r) ≤ size r) → (h : ℕ) → h < g .sets → natAbs (greatestMove g f h) ≤ countTo (g .setMoves h) (λ m. size (extended (leading g h) h m))
-    unfolding greatestMove
+    greatest-size : (f : Sequence → ℤ) → ((r : Sequence) → natAbs (f r) ≤ size r) → (h : ℕ) → h < g .sets → natAbs (greatestWorth g f h) ≤ countTo (g .setMoves h) (λ m. size (extended (leading g h) h m))
+    unfolding greatestWorth
     greatest-size f b h l =
         let w : ℕ → ℤ = λ m. f (extended (leading g h) h m) in
         let e : suc (pred (g .setMoves h)) ≡ g .setMoves h = omega (arith, some h l) in
@@ -166,35 +166,30 @@ module _ (g : Game) (p : Player) (y : RealizationPlan) where
         omega (arith, a, c, ap (λ (n : ℕ). countTo n (λ m. size (extended (leading g h) h m))) e)
 
     -- a partial sum of a worth, by the sizes of the worths in it
-    partial-size : (f : Sequence → ℤ) → ((r : Sequence) → natAbs (f r) ≤ size r) → (s : Sequence) (k : ℕ) → k ≤ g .sets → natAbs (leavesWorth g p y s +ℤ sumWhere k (leadsTo g p s) (greatestMove g f)) ≤ size s
+    partial-size : (f : Sequence → ℤ) → ((r : Sequence) → natAbs (f r) ≤ size r) → (s : Sequence) (k : ℕ) → k ≤ g .sets → natAbs (leavesWorth g p y s +ℤ sumWhere k (leadsTo g p s) (greatestWorth g f)) ≤ size s
     unfolding leavesWorth size
     partial-size f b s k l =
-        let w = greatestMove g f in
+        let w = greatestWorth g f in
         let N = g .nodes in
         let same-at : ℕ → ℕ = λ n. leafSize n * only (same (ownSequence g p n) s) 1 in
         let on : ℕ → ℕ = λ n. leafSize n * goingOn g p s (ownSequence g p n) in
         let a = abs-add (leavesWorth g p y s) (sumWhere k (leadsTo g p s) w) in
         let a1 = leaves-prefix s N (omega arith) in
         let a2 = abs-where k (leadsTo g p s) w in
-        let a3 = where-is k (leadsTo g p s) (λ h. natAbs (w h)) in
-        let a4 = count-less (g .sets) k (λ h. only (leadsTo g p s h) (natAbs (w h))) l in
-        let a5 = count-le (g .sets) (λ h. only (leadsTo g p s h) (natAbs (w h))) (λ h. only (leadsTo g p s h) (countTo (g .setMoves h) (λ m. size (extended (leading g h) h m)))) (λ h v. only-le (leadsTo g p s h) _ _ (λ t. greatest-size f b h v)) in
-        let a6 = sizes-on s in
-        let a7 = count-plus N same-at on in
-        let a8 = count-le N (λ n. same-at n + on n) (λ n. leafSize n * only (isPrefix s (ownSequence g p n)) 1) (λ n v. omega (arith, NatL.mul-add (leafSize n) (only (same (ownSequence g p n) s) 1) (goingOn g p s (ownSequence g p n)), NatL.mul-le-mul-left (leafSize n) (met-once g p s (ownSequence g p n)))) in
-        omega (arith, a, a1, a2, a3, a4, a5, a6, a7, a8)
+        let a3 = count-less (g .sets) k (λ h. only (leadsTo g p s h) (natAbs (w h))) l in
+        let a4 = count-le (g .sets) (λ h. only (leadsTo g p s h) (natAbs (w h))) (λ h. only (leadsTo g p s h) (countTo (g .setMoves h) (λ m. size (extended (leading g h) h m)))) (λ h v. only-le (leadsTo g p s h) _ _ (λ t. greatest-size f b h v)) in
+        let a5 = sizes-on s in
+        let a6 = count-plus N same-at on in
+        let a7 = count-le N (λ n. same-at n + on n) (λ n. leafSize n * only (isPrefix s (ownSequence g p n)) 1) (λ n v. omega (arith, NatL.mul-add (leafSize n) (only (same (ownSequence g p n) s) 1) (goingOn g p s (ownSequence g p n)), NatL.mul-le-mul-left (leafSize n) (met-once g p s (ownSequence g p n)))) in
+        omega (arith, a, a1, a2, a3, a4, a5, a6, a7)
 
     worth-size : (f : ℕ) (s : Sequence) → natAbs (worthIn g p y f s) ≤ size s
     unfolding worthIn
     worth-size zero s = omega arith
     worth-size (suc f) s = partial-size (worthIn g p y f) (worth-size f) s (g .sets) (omega arith)
 
-    -- no worth is larger than all leaves together, whatever the number of steps
-    pub worth-bound : (f : ℕ) (s : Sequence) → natAbs (worthIn g p y f s) ≤ leafSizes
-    worth-bound f s = omega (arith, worth-size f s, size-most s)
-
     -- nor is a partial sum of one, over the first k sets
-    pub partial-bound : (f : ℕ) (s : Sequence) (k : ℕ) → k ≤ g .sets → natAbs (leavesWorth g p y s +ℤ sumWhere k (leadsTo g p s) (greatestMove g (worthIn g p y f))) ≤ leafSizes
+    pub partial-bound : (f : ℕ) (s : Sequence) (k : ℕ) → k ≤ g .sets → natAbs (leavesWorth g p y s +ℤ sumWhere k (leadsTo g p s) (greatestWorth g (worthIn g p y f))) ≤ leafSizes
     partial-bound f s k l = omega (arith, partial-size (worthIn g p y f) (worth-size f) s k l, size-most s)
 
   -- nor is a prefix of the sum of the leaves at a sequence

@@ -12,7 +12,7 @@ use Rattle.algebra.proofs.Sums.{where-cong, where-none}
 use Rattle.model.specs.Game.{Game, Player, owns, isLeaf}
 use Rattle.model.specs.Sequences.{Sequence, extended, same, ownSequence, leading}
 use Rattle.model.specs.Plan.{RealizationPlan}
-use Rattle.model.specs.BestResponse.{leadsTo, greatestMove, leavesWorth, worthIn, worth, setWorth}
+use Rattle.model.specs.BestResponse.{leadsTo, greatestWorth, leavesWorth, worthIn, worth, setWorth}
 use Rattle.model.specs.Demand1.{GameRules}
 use Rattle.model.proofs.Sequences.{same→eq, extended-length}
 use Rattle.model.proofs.Tree.{own-length, leading-length}
@@ -25,8 +25,8 @@ leads-parts g p s h t =
     (a .0, same→eq (leading g h) s (a .1))
 
 -- a set's worth goes by the worths of its moves
-pub greatest-cong : (g : Game) (f k : Sequence → ℤ) (h : ℕ) → ((m : ℕ) → f (extended (leading g h) h m) ≡ k (extended (leading g h) h m)) → greatestMove g f h ≡ greatestMove g k h
-unfolding greatestMove
+pub greatest-cong : (g : Game) (f k : Sequence → ℤ) (h : ℕ) → ((m : ℕ) → f (extended (leading g h) h m) ≡ k (extended (leading g h) h m)) → greatestWorth g f h ≡ greatestWorth g k h
+unfolding greatestWorth
 greatest-cong g f k h e = maxUpTo-cong (pred (g .setMoves h)) _ _ (λ m l. e m)
 
 module _ (g : Game) (R : GameRules g) (p : Player) (y : RealizationPlan) where
@@ -47,7 +47,7 @@ module _ (g : Game) (R : GameRules g) (p : Player) (y : RealizationPlan) where
   -- once the steps are enough, one more changes nothing
   stable : (k : ℕ) (s : Sequence) → g .nodes ≤ k + length s → worthIn g p y (suc k) s ≡ worthIn g p y k s
   unfolding worthIn
-  stable zero s l = rw (no-leaf s (omega arith), where-none (g .sets) (leadsTo g p s) (greatestMove g (λ r. pos 0)) (no-set s (omega arith)))
+  stable zero s l = rw (no-leaf s (omega arith), where-none (g .sets) (leadsTo g p s) (greatestWorth g (λ r. pos 0)) (no-set s (omega arith)))
   stable (suc k) s l =
       ap (λ (z : ℤ). leavesWorth g p y s +ℤ z)
       (where-cong (g .sets) (leadsTo g p s) _ _ (λ h b t.
@@ -61,5 +61,5 @@ module _ (g : Game) (R : GameRules g) (p : Player) (y : RealizationPlan) where
 
 -- "A set is worth its worthiest move."
 pub worth-set : (g : Game) (p : Player) (y : RealizationPlan) (h : ℕ) → setWorth g p y h ≡ maxUpTo (pred (g .setMoves h)) (λ m. worth g p y (extended (leading g h) h m))
-unfolding setWorth greatestMove
+unfolding setWorth greatestWorth
 worth-set g p y h = refl

@@ -15,9 +15,9 @@ use Rattle.model.specs.Earnings.{leafTerm, againstBase, Fraction}
 unfoldable pub leadsTo : Game → Player → Sequence → ℕ → Bool
 leadsTo g p s h = owns g p h && same (leading g h) s
 
--- "A set is worth its worthiest move", by the worth of sequences
-unfoldable pub greatestMove : Game → (Sequence → ℤ) → ℕ → ℤ
-greatestMove g worthOf h = maxUpTo (pred (g .setMoves h)) (λ m. worthOf (extended (leading g h) h m))
+-- "A set is worth its worthiest move": the greatest worth of its moves, by the worth of sequences
+unfoldable pub greatestWorth : Game → (Sequence → ℤ) → ℕ → ℤ
+greatestWorth g worthOf h = maxUpTo (pred (g .setMoves h)) (λ m. worthOf (extended (leading g h) h m))
 
 -- Player p against the other's realization plan y.
 module _ (g : Game) (p : Player) (y : RealizationPlan) where
@@ -26,29 +26,32 @@ module _ (g : Game) (p : Player) (y : RealizationPlan) where
   leavesWorth s = sumWhere (g .nodes) (λ n. isLeaf g n && same (ownSequence g p n) s) (leafTerm g p y)
 
   -- "a sequence is worth the .. leaves at that very sequence, plus the worth of each own set it leads to",
-  -- here up to `steps` moves on
+  -- here counting only leaves that are fewer than `steps` own moves on
   unfoldable pub worthIn : (steps : ℕ) → Sequence → ℤ
   worthIn zero s = pos 0
-  worthIn (suc steps) s = leavesWorth s +ℤ sumWhere (g .sets) (leadsTo g p s) (greatestMove g (worthIn steps))
+  worthIn (suc steps) s = leavesWorth s +ℤ sumWhere (g .sets) (leadsTo g p s) (greatestWorth g (worthIn steps))
 
   -- No sequence has as many moves as there are nodes, so that many steps are enough: a law has the document's two equations.
   unfoldable pub worth : Sequence → ℤ
   worth s = worthIn (g .nodes) s
 
+  -- the worth of set h
   unfoldable pub setWorth : ℕ → ℤ
-  setWorth h = greatestMove g worth h
+  setWorth h = greatestWorth g worth h
 
   -- "The empty sequence's worth is the best value", "counted over D0 × the other's D"
   unfoldable pub bestCount : ℤ
   bestCount = worth []
 
+  -- the best value as a fraction
   unfoldable pub bestValue : Fraction
-  bestValue = record { count = bestCount; base = againstBase g p y }
+  bestValue = record { count = bestCount; base = againstBase g y }
 
   -- "the lowest-numbered worthiest move" of set h
   unfoldable pub bestMove : ℕ → ℕ
   bestMove h = firstTo (g .setMoves h) (λ m. leZ (setWorth h) (worth (extended (leading g h) h m)))
 
+  -- set h with its best move
   unfoldable pub bestAt : ℕ → List Move
   bestAt h = (h, bestMove h) ∷ []
 
@@ -58,5 +61,5 @@ module _ (g : Game) (p : Player) (y : RealizationPlan) where
 
 -- To unfold this is to unfold all of this file: for closed computation.
 unfoldable pub opened : Unit {0}
-unfolding leadsTo greatestMove leavesWorth worthIn worth setWorth bestCount bestValue bestMove bestAt bestResponse
+unfolding leadsTo greatestWorth leavesWorth worthIn worth setWorth bestCount bestValue bestMove bestAt bestResponse
 opened = tt

@@ -8,7 +8,7 @@ use lib.Dec.{ltb}
 use lib.IntN.{ℤ, pos, negsuc, subℕ}
 use Rattle.algebra.specs.Bounded.{listTo}
 
--- the number whose binary digits are d at, d (at + 1), .. d (at + width - 1)
+-- the number whose binary digits, most significant first, are d at, d (at + 1), .. d (at + width - 1)
 unfoldable pub numeral : (ℕ → ℕ) → (at width : ℕ) → ℕ
 numeral d at zero = 0
 numeral d at (suc width) = 2 * numeral d at width + d (at + width)
@@ -25,7 +25,7 @@ field bytes at width = numeral (bit bytes) at width
 unfoldable pub fields : List ℕ → (at width count : ℕ) → List ℕ
 fields bytes at width count = listTo count (λ i. field bytes (at + width * i) width)
 
--- the `width` bits of a number
+-- the `width` bits of a number, most significant first
 unfoldable pub bits : (width n : ℕ) → List ℕ
 bits zero n = []
 bits (suc width) n = n / 2 ^ width % 2 ∷ bits width n
@@ -47,7 +47,7 @@ pack l = packed ((length l + 7) / 8) l
 unfoldable pub signed : (width n : ℕ) → ℤ
 signed width n = cond (ltb (2 * n) (2 ^ width)) (pos n) (subℕ n (2 ^ width))
 
--- an integer as two's complement of `width` bits
+-- an integer that fits `width` bits, as two's complement
 unfoldable pub twosComplement : (width : ℕ) → ℤ → ℕ
 twosComplement width (pos n) = n
 twosComplement width (negsuc n) = 2 ^ width - suc n

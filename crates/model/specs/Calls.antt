@@ -49,31 +49,43 @@ longEnough (n ∷ results) (r ∷ rooms) = leb n r && longEnough results rooms
 unfoldable pub withRoom : {A : Type 0} → Checks A → (results : A → List ℕ) → Checks (Lent A)
 withRoom checks results = along (λ c. c .input) checks ++ (18, λ c. longEnough (results (c .input)) (c .rooms)) ∷ []
 
--- 17: "a set or node number asked for is not in the game". The first serves set entries and own sequences of sets.
+-- 17: "a set or node number asked for is not in the game". For a set number: set entries and own sequences of sets
 unfoldable pub setNumberChecks : Checks Numbered
 setNumberChecks = along (λ c. c .file) gameChecks ++ (17, λ c. ltb (c .number) (gameOf (c .file) .sets)) ∷ []
 
+-- 17 for a node number: node records
 unfoldable pub nodeNumberChecks : Checks Numbered
 nodeNumberChecks = along (λ c. c .file) gameChecks ++ (17, λ c. ltb (c .number) (gameOf (c .file) .nodes)) ∷ []
 
+-- Calls with result buffers: how long each result is, one number a buffer, and the checks of the call.
+
 -- all fields of a game: two buffers for the sets' fields, eight for the nodes'
+abbrev pub gameFieldLengths : List ℕ → List ℕ
+gameFieldLengths b = let h = gameOf b .sets in let n = gameOf b .nodes in h ∷ h ∷ n ∷ n ∷ n ∷ n ∷ n ∷ n ∷ n ∷ n ∷ []
+
 unfoldable pub gameFieldsChecks : Checks (Lent (List ℕ))
-gameFieldsChecks =
-    withRoom gameChecks (λ b.
-    let h = gameOf b .sets in
-    let n = gameOf b .nodes in
-    h ∷ h ∷ n ∷ n ∷ n ∷ n ∷ n ∷ n ∷ n ∷ n ∷ [])
+gameFieldsChecks = withRoom gameChecks gameFieldLengths
 
 -- all weights of a plan
+abbrev pub weightLengths : Files → List ℕ
+weightLengths f = planMoves (gameOf (f .game)) ∷ []
+
 unfoldable pub planFieldsChecks : Checks (Lent Files)
-planFieldsChecks = withRoom pairChecks (λ f. planMoves (gameOf (f .game)) ∷ [])
+planFieldsChecks = withRoom pairChecks weightLengths
 
 -- the payoff table: four buffers, one a column
+abbrev pub tableLengths : List ℕ → List ℕ
+tableLengths b = let rows = length (payoffTable (gameOf b)) in rows ∷ rows ∷ rows ∷ rows ∷ []
+
 unfoldable pub tableChecks : Checks (Lent (List ℕ))
-tableChecks =
-    withRoom gameChecks (λ b.
-    let rows = length (payoffTable (gameOf b)) in
-    rows ∷ rows ∷ rows ∷ rows ∷ [])
+tableChecks = withRoom gameChecks tableLengths
+
+-- the payoff table as rows: one buffer
+abbrev pub rowsLengths : List ℕ → List ℕ
+rowsLengths b = length (payoffTable (gameOf b)) ∷ []
+
+unfoldable pub rowsChecks : Checks (Lent (List ℕ))
+rowsChecks = withRoom gameChecks rowsLengths
 
 -- the strategy that a verdict shows: none where the pair is an equilibrium
 unfoldable pub shownMoves : Verdict → List Move
@@ -81,25 +93,38 @@ shownMoves equilibrium = []
 shownMoves (deviation p gain moves) = moves
 
 -- the verdict: its buffer is measured against the strategy really to be shown
+abbrev pub strategyLengths : Files → List ℕ
+strategyLengths f = length (shownMoves (verdict (gameOf (f .game)) (planPairOf (gameOf (f .game)) (f .plan)))) ∷ []
+
 unfoldable pub verdictChecks : Checks (Lent Files)
-verdictChecks = withRoom pairChecks (λ f. length (shownMoves (verdict (gameOf (f .game)) (planPairOf (gameOf (f .game)) (f .plan)))) ∷ [])
+verdictChecks = withRoom pairChecks strategyLengths
 
 -- the desk program's text
+abbrev pub reportLengths : Files → List ℕ
+reportLengths f = length (reportOf (f .game) (f .plan)) ∷ []
+
 unfoldable pub reportChecks : Checks (Lent Files)
-reportChecks = withRoom pairChecks (λ f. length (reportOf (f .game) (f .plan)) ∷ [])
+reportChecks = withRoom pairChecks reportLengths
 
 -- the line that tells a refusal
+abbrev pub lineLengths : ℕ → List ℕ
+lineLengths k = length (refusalLine k) ∷ []
+
 unfoldable pub refusalLineChecks : Checks (Lent ℕ)
-refusalLineChecks = withRoom [] (λ k. length (refusalLine k) ∷ [])
+refusalLineChecks = withRoom [] lineLengths
 
--- "Writers test 17 and 18 only."
+-- the game file that is written
+abbrev pub gameFileLengths : GameFields → List ℕ
+gameFileLengths t = length (gameBytes t) ∷ []
+
+-- the game writer: "Writers test 17 and 18 only."
 unfoldable pub gameWriterChecks : Checks (Lent GameFields)
-gameWriterChecks = withRoom ((17, gameFieldsFit) ∷ []) (λ t. length (gameBytes t) ∷ [])
+gameWriterChecks = withRoom ((17, gameFieldsFit) ∷ []) gameFileLengths
 
+-- the plan file that is written
+abbrev pub planFileLengths : PlanFields → List ℕ
+planFileLengths t = length (planBytes (t .d1) (t .d2) (t .weights)) ∷ []
+
+-- the plan writer, likewise
 unfoldable pub planWriterChecks : Checks (Lent PlanFields)
-planWriterChecks = withRoom ((17, λ t. planFieldsFit (t .d1) (t .d2) (t .weights)) ∷ []) (λ t. length (planBytes (t .d1) (t .d2) (t .weights)) ∷ [])
-
--- To unfold this is to unfold all of this file: for closed computation.
-unfoldable pub opened : Unit {0}
-unfolding afterCall withRoom setNumberChecks nodeNumberChecks gameFieldsChecks planFieldsChecks tableChecks shownMoves verdictChecks reportChecks refusalLineChecks gameWriterChecks planWriterChecks
-opened = tt
+planWriterChecks = withRoom ((17, λ t. planFieldsFit (t .d1) (t .d2) (t .weights)) ∷ []) planFileLengths

@@ -30,15 +30,23 @@ module _ (g : Game) (q : PlanPair) where
     pub best : (k : ℕ) → k < g .setMoves h → moveWorth p h k ≤ℤ moveWorth p h m
     pub lowest : (k : ℕ) → k < m → moveWorth p h k <ℤ moveWorth p h m
 
-  -- what a deviation of p with this gain and these moves says
+  -- What is true of a deviation of p with this gain and these moves.
   pub record Deviates (p : Player) (gain : ℤ) (moves : List Move) : Type 0 where
-    pub named : p ≡ two → NoProfitableDeviation one  -- player 2 is shown only where no strategy of player 1 gains
-    pub everySet : map (λ (x : Move). x .0) moves ≡ setsOf g p  -- a move for every set of p, rising
+    -- "Player 1 is shown if both can gain": player 2 only where no strategy of player 1 gains
+    pub firstFirst : p ≡ two → NoProfitableDeviation one
+    -- "The shown strategy takes in every set of that player, reached or not": a move for each, rising
+    pub everySet : map (λ (x : Move). x .0) moves ≡ setsOf g p
+    -- "A pure strategy is one move for each of his sets": one of the set's moves
     pub pure : IsPure g p (listed moves)
+    -- "the lowest-numbered worthiest move"
     pub worthiest : (h : ℕ) → h < g .sets → T (owns g p h) → LowestBest p h (listed moves h)
+    -- "that strategy earns its player, against the other's plan, exactly the stated gain more than his own plan does"
     pub exact : Equal (record { count = gain; base = valueBase g q }) (minus (pureEarnings g p (q (other p)) (listed moves)) (planEarnings g p (q (other p)) (q p)))
+    -- "that gain is above zero"
     pub above : pos 0 <ℤ gain
+    -- "every other strategy of that player, pure .. earns at most as much as the one shown"
     pub best : (σ : PureStrategy) → IsPure g p σ → AtMost (pureEarnings g p (q (other p)) σ) (pureEarnings g p (q (other p)) (listed moves))
+    -- "or mixed by whole-number weights of any size, not all 0"
     pub bestMixed : (μ : MixedStrategy) → IsMixed g p μ → AtMost (mixedEarnings g p (q (other p)) μ) (pureEarnings g p (q (other p)) (listed moves))
 
   -- every base that a fraction above is compared over is above 0
@@ -48,9 +56,13 @@ module _ (g : Game) (q : PlanPair) where
     pub plans : (p : Player) → 0 < planEarnings g p (q (other p)) (q p) .base
     pub mixed : (p : Player) (μ : MixedStrategy) → IsMixed g p μ → 0 < mixedEarnings g p (q (other p)) μ .base
 
+  -- what the verdict on the pair means
   pub record Judged : Type 0 where
+    -- "the pair is accepted exactly when no pure strategy .. earns either player more against the other's plan than his own plan does"
     pub accepts : (verdict g q ≡ equilibrium) ↔ (NoProfitableDeviation one × NoProfitableDeviation two)
+    -- "whenever the pair is not accepted, the player and the strategy shown are those that document 01 names"
     pub shows : (p : Player) (gain : ℤ) (moves : List Move) → verdict g q ≡ deviation p gain moves → Deviates p gain moves
+    -- "All are compared as exact fractions", none of them over 0
     pub bases : BasesPositive
 
 -- "For every accepted game and every plan pair that fits it"

@@ -9,10 +9,10 @@ use lib.IntN.{ℤ, pos, _+ℤ_, _-ℤ_, _*ℤ_}
 use lib.Signed.{_≤ℤ_}
 use Rattle.algebra.specs.Bounded.{sumWhere, joinTo}
 use Rattle.model.specs.Game.{Game, Player, one, two, other, owns, isLeaf}
-use Rattle.model.specs.Sequences.{Sequence, ownSequence}
+use Rattle.model.specs.Sequences.{Move, Sequence, ownSequence}
 use Rattle.model.specs.Plan.{RealizationPlan, PlanPair, weightAt}
 
--- An exact fraction: a count over a base. That each base here is above 0 is a law.
+-- An exact fraction, `count` its numerator and `base` its denominator. For accepted files every base is above 0 (Demand3, `BasesPositive`).
 pub record Fraction : Type 0 where
   pub count : ℤ
   pub base : ℕ
@@ -21,9 +21,11 @@ pub record Fraction : Type 0 where
 abbrev pub AtMost : Fraction → Fraction → Type 0
 AtMost a b = (pos (b .base) *ℤ a .count) ≤ℤ (pos (a .base) *ℤ b .count)
 
+-- the two fractions are the same
 abbrev pub Equal : Fraction → Fraction → Type 0
 Equal a b = pos (b .base) *ℤ a .count ≡ pos (a .base) *ℤ b .count
 
+-- the first less the second
 abbrev pub minus : Fraction → Fraction → Fraction
 minus a b = record {
   count = pos (b .base) *ℤ a .count -ℤ pos (a .base) *ℤ b .count;
@@ -44,7 +46,7 @@ consistent σ [] = true
 consistent σ (x ∷ s) = eqb (σ (x .0)) (x .1) && consistent σ s
 
 -- the pure strategy that a list of sets with their moves gives; move 0 at any set that is not listed
-unfoldable pub listed : List (ℕ × ℕ) → PureStrategy
+unfoldable pub listed : List Move → PureStrategy
 listed [] h = 0
 listed (x ∷ l) h = cond (eqb (x .0) h) (x .1) (listed l h)
 
@@ -71,6 +73,10 @@ module _ (g : Game) where
   unfoldable pub setsOf : Player → List ℕ
   setsOf p = joinTo (g .sets) (λ h. cond (owns g p h) (h ∷ []) [])
 
+-- "divided by D0 × the other's D", whose plan is y
+unfoldable pub againstBase : Game → (y : RealizationPlan) → ℕ
+againstBase g y = g .rootWeight * y .denominator
+
 -- Player p, and the realization plan y of the other player that he earns against.
 module _ (g : Game) (p : Player) (y : RealizationPlan) where
   -- chance weight × the other's plan weight × p's payoff at node n
@@ -81,37 +87,41 @@ module _ (g : Game) (p : Player) (y : RealizationPlan) where
   unfoldable pub pureCount : PureStrategy → ℤ
   pureCount σ = sumWhere (g .nodes) (λ n. isLeaf g n && consistent σ (ownSequence g p n)) leafTerm
 
-  -- "divided by D0 × the other's D"
-  unfoldable pub againstBase : ℕ
-  againstBase = g .rootWeight * y .denominator
-
+  -- what a pure strategy earns
   unfoldable pub pureEarnings : PureStrategy → Fraction
-  pureEarnings σ = record { count = pureCount σ; base = againstBase }
+  pureEarnings σ = record { count = pureCount σ; base = againstBase g y }
 
   -- "earns the sum of weight × earnings, divided by the sum of the weights"
   unfoldable pub mixedCount : MixedStrategy → ℤ
   mixedCount [] = pos 0
   mixedCount (x ∷ μ) = pos (x .0) *ℤ pureCount (x .1) +ℤ mixedCount μ
 
+  -- what a mixed strategy earns
   unfoldable pub mixedEarnings : MixedStrategy → Fraction
-  mixedEarnings μ = record { count = mixedCount μ; base = totalWeight μ * againstBase }
+  mixedEarnings μ = record { count = mixedCount μ; base = totalWeight μ * againstBase g y }
 
-  -- what a realization plan x of p earns: each leaf counts with the weight of p's own sequence to it
+  -- what a realization plan x of p earns, before it is divided: each leaf counts with the weight of p's own sequence to it
   unfoldable pub planCount : RealizationPlan → ℤ
   planCount x = sumWhere (g .nodes) (isLeaf g) (λ n. pos (weightAt g x p n) *ℤ leafTerm n)
 
+  -- what a realization plan earns
   unfoldable pub planEarnings : RealizationPlan → Fraction
-  planEarnings x = record { count = planCount x; base = x .denominator * againstBase }
+  planEarnings x = record { count = planCount x; base = x .denominator * againstBase g y }
+
+-- D0 × D1 × D2
+abbrev pub baseOf : (d0 d1 d2 : ℕ) → ℕ
+baseOf d0 d1 d2 = d0 * (d1 * d2)
 
 module _ (g : Game) (q : PlanPair) where
-  -- D0 × D1 × D2
+  -- what values and gains are counted over
   unfoldable pub valueBase : ℕ
-  valueBase = g .rootWeight * (q one .denominator * q two .denominator)
+  valueBase = baseOf (g .rootWeight) (q one .denominator) (q two .denominator)
 
   -- "chance weight × both plan weights × payoff" at node n
   unfoldable pub valueTerm : Player → ℕ → ℤ
   valueTerm p n = pos (g .weight n * weightAt g (q one) one n * weightAt g (q two) two n) *ℤ g .payoff p n
 
+  -- the value's numerator
   unfoldable pub valueCount : Player → ℤ
   valueCount p = sumWhere (g .nodes) (isLeaf g) (valueTerm p)
 
@@ -119,7 +129,7 @@ module _ (g : Game) (q : PlanPair) where
   unfoldable pub value : Player → Fraction
   value p = record { count = valueCount p; base = valueBase }
 
--- To unfold this is to unfold all of this file: for closed computation.
+-- To unfold this is to unfold all of this file that computes: for closed computation.
 unfoldable pub opened : Unit {0}
 unfolding consistent listed totalWeight setsOf leafTerm pureCount againstBase pureEarnings mixedCount mixedEarnings planCount planEarnings valueBase valueTerm valueCount value
 opened = tt

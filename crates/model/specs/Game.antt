@@ -7,6 +7,7 @@ use lib.IntN.{ℤ}
 use Rattle.algebra.specs.Bounded.{countTo}
 use Rattle.model.specs.Bits.{field, signed}
 
+-- player 1 and player 2
 pub data Player : Type 0 where
   one two : Player
 
@@ -15,6 +16,7 @@ abbrev pub other : Player → Player
 other one = two
 other two = one
 
+-- the two players are the same
 abbrev pub samePlayer : Player → Player → Bool
 samePlayer one one = true
 samePlayer one two = false
@@ -26,9 +28,15 @@ abbrev pub playerOf : ℕ → Player
 playerOf zero = one
 playerOf (suc n) = two
 
+-- a player's bit in a set entry
 abbrev pub playerBit : Player → ℕ
 playerBit one = 0
 playerBit two = 1
+
+-- the number that names a player, 1 or 2
+abbrev pub playerNumber : Player → ℕ
+playerNumber one = 1
+playerNumber two = 2
 
 -- An extensive-form game as its file gives it: numbers for each information set and each node.
 pub record Game : Type 0 where
@@ -46,12 +54,12 @@ pub record Game : Type 0 where
   pub payoff : Player → ℕ → ℤ  -- at a leaf
 
 -- the first bit of set h's entry: after the header of 40 bits, 8 bits each
-unfoldable pub setAt : List ℕ → ℕ → ℕ
-setAt bytes h = 40 + 8 * h
+unfoldable pub setAt : ℕ → ℕ
+setAt h = 40 + 8 * h
 
 -- the first bit of node n's record: after the H set entries, 64 bits each
 unfoldable pub nodeAt : List ℕ → ℕ → ℕ
-nodeAt bytes n = setAt bytes (field bytes 16 12) + 64 * n
+nodeAt bytes n = setAt (field bytes 16 12) + 64 * n
 
 -- "player 1's payoff and player 2's, 16 bits each": where a player's begins in a leaf's record
 abbrev pub payoffAt : Player → ℕ
@@ -65,8 +73,8 @@ gameOf bytes = record {
   nodes = field bytes 4 12;
   sets = field bytes 16 12;
   rootWeight = field bytes 28 12;
-  setPlayer = λ h. playerOf (field bytes (setAt bytes h) 1);
-  setMoves = λ h. field bytes (setAt bytes h + 1) 7;
+  setPlayer = λ h. playerOf (field bytes (setAt h) 1);
+  setMoves = λ h. field bytes (setAt h + 1) 7;
   kind = λ n. field bytes (nodeAt bytes n) 2;
   parent = λ n. field bytes (nodeAt bytes n + 2) 12;
   move = λ n. field bytes (nodeAt bytes n + 14) 6;
@@ -77,12 +85,15 @@ gameOf bytes = record {
 }
 
 module _ (g : Game) where
+  -- node n is a leaf
   unfoldable pub isLeaf : ℕ → Bool
   isLeaf n = eqb (g .kind n) 0
 
+  -- node n is a decision
   unfoldable pub isDecision : ℕ → Bool
   isDecision n = eqb (g .kind n) 1
 
+  -- node n is a chance node
   unfoldable pub isChance : ℕ → Bool
   isChance n = eqb (g .kind n) 2
 

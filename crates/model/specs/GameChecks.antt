@@ -55,14 +55,15 @@ module _ (g : Game) where
   unfoldable pub setMovesInRange : Bool
   setMovesInRange = allTo (g .sets) (λ h. isMoveCount (g .setMoves h))
 
-  -- 7: "A decision's set number is not below H, or a chance node's move count is outside 1 to 64."
+  -- 7, at node n: "A decision's set number is not below H, or a chance node's move count is outside 1 to 64."
   unfoldable pub payloadInRange : ℕ → Bool
   payloadInRange n = implies (isDecision g n) (ltb (g .nodeSet n) (g .sets)) && implies (isChance g n) (isMoveCount (g .chanceMoves n))
 
+  -- 7, of every node
   unfoldable pub payloadsInRange : Bool
   payloadsInRange = allTo (g .nodes) payloadInRange
 
-  -- 8: "The root's parent or move is not 0, or another node's parent is not smaller or is a leaf, or its move is not below the parent's move count."
+  -- 8, at node n: "The root's parent or move is not 0, or another node's parent is not smaller or is a leaf, or its move is not below the parent's move count."
   unfoldable pub attached : ℕ → Bool
   attached zero = eqb (g .parent 0) 0 && eqb (g .move 0) 0
   attached (suc n) =
@@ -70,6 +71,7 @@ module _ (g : Game) where
       && not (isLeaf g (g .parent (suc n)))
       && ltb (g .move (suc n)) (nodeMoves g (g .parent (suc n)))
 
+  -- 8, of every node
   unfoldable pub nodesAttached : Bool
   nodesAttached = allTo (g .nodes) attached
 
@@ -81,7 +83,7 @@ module _ (g : Game) where
   unfoldable pub shareMove : (b c : ℕ) → Bool
   shareMove b c = ltb 0 b && isChild (g .parent b) (g .move b) c
 
-  -- 9: no two do, "or some move of an inner node has no node" (a leaf has no move)
+  -- 9: "Two nodes other than the root share parent and move, or some move of an inner node has no node." A leaf has no move.
   unfoldable pub movesLeadOn : Bool
   movesLeadOn =
       allTo (g .nodes) (λ c. allTo c (λ b. not (shareMove b c)))
@@ -104,12 +106,13 @@ module _ (g : Game) where
   unfoldable pub weightsObeyRules : Bool
   weightsObeyRules = allTo (g .nodes) (λ n. ltb 0 (g .weight n) && weightInherited n && weightShared n)
 
-  -- the moves from the root to node n. Numbers fall on the way up, so n steps are enough.
+  -- how many moves lead from the root to node n, at most `steps` of them counted
   unfoldable pub depthIn : (steps n : ℕ) → ℕ
   depthIn zero n = 0
   depthIn (suc steps) zero = 0
   depthIn (suc steps) (suc n) = 1 + depthIn steps (g .parent (suc n))
 
+  -- how many moves lead from the root to node n. Numbers fall on the way up, so n steps are enough.
   unfoldable pub depth : ℕ → ℕ
   depth n = depthIn n n
 
@@ -152,6 +155,7 @@ treeChecks =
     ∷ (13, λ b. perfectRecall (gameOf b))
     ∷ []
 
+-- checks 1 to 13
 unfoldable pub gameChecks : Checks (List ℕ)
 gameChecks = headerChecks ++ treeChecks
 

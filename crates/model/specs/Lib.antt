@@ -9,9 +9,11 @@ pub mod Table
 pub mod Earnings
 pub mod BestResponse
 pub mod Verdict
+pub mod Budget
 pub mod Writing
 pub mod Report
 pub mod Calls
+pub mod Reasons
 pub mod Demand1
 pub mod Demand2
 pub mod Demand3

@@ -35,6 +35,7 @@ module _ (g : Game) where
   unfoldable pub fits : Player → RealizationPlan → Bool
   fits p x = allTo (g .sets) (λ h. implies (owns g p h) (balanced x h))
 
+  -- both plans of a pair fit
   unfoldable pub pairFits : PlanPair → Bool
   pairFits q = fits one (q one) && fits two (q two)
 
@@ -43,6 +44,14 @@ module _ (g : Game) where
 abbrev pub denominatorAt : Player → ℕ
 denominatorAt one = 4
 denominatorAt two = 16
+
+-- where the four zero bits begin
+abbrev pub headerZerosAt : ℕ
+headerZerosAt = 28
+
+-- the first bit of the weight at a place among all weights
+unfoldable pub weightBit : ℕ → ℕ
+weightBit place = 32 + 12 * place
 
 module _ (g : Game) where
   -- "the weights of player 1's moves, sets rising and moves rising, then player 2's likewise": how many stand before p's
@@ -58,10 +67,6 @@ module _ (g : Game) where
   unfoldable pub weightPlace : Player → (h m : ℕ) → ℕ
   weightPlace p h m = weightsBefore p + movesBefore g p h + m
 
-  -- the first bit of the weight at a place
-  unfoldable pub weightBit : ℕ → ℕ
-  weightBit place = 32 + 12 * place
-
   -- the pair that a plan file holds
   unfoldable pub planPairOf : List ℕ → PlanPair
   planPairOf bytes p = record {
@@ -71,7 +76,7 @@ module _ (g : Game) where
 
   -- all its weights in file order
   unfoldable pub planWeights : List ℕ → List ℕ
-  planWeights bytes = fields bytes 32 12 planMoves
+  planWeights bytes = fields bytes (weightBit 0) 12 planMoves
 
 -- To unfold this is to unfold all of this file: for closed computation.
 unfoldable pub opened : Unit {0}

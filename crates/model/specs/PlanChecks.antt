@@ -6,10 +6,10 @@ use mathlib.Core.List.{List, [], _∷_, _++_}
 use lib.ListN.{length}
 use lib.Dec.{eqb, ltb}
 use Rattle.model.specs.Bits.{field}
-use Rattle.model.specs.Game.{Game, gameOf}
+use Rattle.model.specs.Game.{Game, gameOf, one, two}
 use Rattle.model.specs.Refusals.{Checks, firstFailing, along}
 use Rattle.model.specs.GameChecks.{gameChecks}
-use Rattle.model.specs.Plan.{planMoves, planPairOf, pairFits, weightBit}
+use Rattle.model.specs.Plan.{planMoves, planPairOf, pairFits, denominatorAt, headerZerosAt, weightBit}
 
 -- the bytes of the two files
 pub record Files : Type 0 where
@@ -27,18 +27,18 @@ module _ (g : Game) where
 
   -- the filling: from the last weight to the file's end
   unfoldable pub filling : List ℕ → ℕ
-  filling bytes = field bytes (weightBit g (planMoves g)) (8 * length bytes - weightBit g (planMoves g))
+  filling bytes = field bytes (weightBit (planMoves g)) (8 * length bytes - weightBit (planMoves g))
 
   -- 15: "Its edition is not 1, D1 or D2 is zero, or a filling or header zero bit is one."
   unfoldable pub planWellFormed : List ℕ → Bool
   planWellFormed bytes =
       eqb (field bytes 0 4) 1
-      && ltb 0 (field bytes 4 12)
-      && ltb 0 (field bytes 16 12)
-      && eqb (field bytes 28 4) 0
+      && ltb 0 (field bytes (denominatorAt one) 12)
+      && ltb 0 (field bytes (denominatorAt two) 12)
+      && eqb (field bytes headerZerosAt 4) 0
       && eqb (filling bytes) 0
 
--- 16: "The plan does not fit."
+-- checks 14 to 16. 16, "The plan does not fit.", is `pairFits` of the pair that the file holds.
 unfoldable pub planChecks : Checks Files
 planChecks =
     (14, λ f. planHasLength (gameOf (f .game)) (f .plan))

@@ -8,7 +8,7 @@ use mathlib.Core.List.{List, [], _∷_, _++_, flatMap}
 use lib.Dec.{eqb, ltb}
 use lib.IntN.{ℤ, natAbs}
 use lib.Signed.{nonNeg}
-use Rattle.model.specs.Game.{Game, gameOf, Player, one, two, other}
+use Rattle.model.specs.Game.{Game, gameOf, Player, one, two, other, playerNumber}
 use Rattle.model.specs.Sequences.{Move}
 use Rattle.model.specs.Plan.{PlanPair, planPairOf}
 use Rattle.model.specs.PlanChecks.{pairRefusal}
@@ -56,18 +56,16 @@ amount a = signedDecimal (showsMinus a) (thousandths a / 1000) ++ ascii "." ++ l
 unfoldable pub line : List ℕ → List ℕ
 line l = l ++ ascii "\n"
 
-abbrev pub playerNumber : Player → ℕ
-playerNumber one = 1
-playerNumber two = 2
-
 -- "one line per set of that player"
 unfoldable pub moveLine : Move → List ℕ
 moveLine x = line (ascii "set " ++ decimal (x .0) ++ ascii " move " ++ decimal (x .1))
 
 module _ (g : Game) (q : PlanPair) where
+  -- the line of a player's value
   unfoldable pub valueLine : Player → List ℕ
   valueLine p = line (ascii "value " ++ decimal (playerNumber p) ++ ascii " " ++ amount (value g q p))
 
+  -- the line of a player's best value
   unfoldable pub bestLine : Player → List ℕ
   bestLine p = line (ascii "best " ++ decimal (playerNumber p) ++ ascii " " ++ amount (bestValue g p (q (other p))))
 
@@ -94,7 +92,8 @@ refusalLine k = line (ascii "refusal " ++ decimal k)
 unfoldable pub reportOf : (game plan : List ℕ) → List ℕ
 reportOf game plan = report (gameOf game) (planPairOf (gameOf game) plan)
 
--- what the program prints for the bytes of two files
+-- what the program prints for the bytes of two files. It takes an absent or unreadable file as one of no bytes:
+-- that is `desk`'s `load`, and it is tested, since no contract can speak of the file system.
 unfoldable pub printed : (game plan : List ℕ) → List ℕ
 printed game plan =
     let k = pairRefusal game plan in
@@ -102,21 +101,7 @@ printed game plan =
     let refused = refusalLine k in
     cond (eqb k 0) accepted refused
 
--- A file in the working folder, as the program finds it.
-pub data Found : Type 0 where
-  unreadable : Found
-  holding : (bytes : List ℕ) → Found
-
--- "an absent or unreadable file counting as empty"
-unfoldable pub contents : Found → List ℕ
-contents unreadable = []
-contents (holding bytes) = bytes
-
--- "It reads `game.bin` and `plan.bin`" and prints
-unfoldable pub deskOutput : (game plan : Found) → List ℕ
-deskOutput game plan = printed (contents game) (contents plan)
-
 -- To unfold this is to unfold all of this file: for closed computation.
 unfoldable pub opened : Unit {0}
-unfolding ascii digitsIn decimal signedDecimal thousandths lastThree showsMinus amount line moveLine valueLine bestLine gainAmount verdictLines report refusalLine reportOf printed contents deskOutput flatMap
+unfolding ascii digitsIn decimal signedDecimal thousandths lastThree showsMinus amount line moveLine valueLine bestLine gainAmount verdictLines report refusalLine reportOf printed flatMap
 opened = tt

@@ -18,6 +18,7 @@ Sequence = List Move
 abbrev pub extended : Sequence → (h m : ℕ) → Sequence
 extended s h m = s ++ (h, m) ∷ []
 
+-- the two moves are the same
 abbrev pub sameMove : Move → Move → Bool
 sameMove x y = eqb (x .0) (y .0) && eqb (x .1) (y .1)
 
@@ -39,7 +40,7 @@ module _ (g : Game) where
   acts p n = isDecision g n && owns g p (g .nodeSet n)
 
   -- p's moves on the walk from node n to the root, the latest first.
-  -- Numbers fall on the way up, so n steps are enough: a law says so.
+  -- Numbers fall on the way up in a game that passes check 8, so that n steps are enough (Demand2, `own-step`).
   unfoldable pub walk : Player → (steps n : ℕ) → Sequence
   walk p zero n = []
   walk p (suc steps) zero = []
@@ -52,7 +53,7 @@ module _ (g : Game) where
   unfoldable pub ownSequence : Player → ℕ → Sequence
   ownSequence p n = reverse (walk p n n)
 
-  -- the first node of set h
+  -- the first node of set h; N where it has none
   unfoldable pub firstNode : ℕ → ℕ
   firstNode h = firstTo (g .nodes) (inSet g h)
 
@@ -64,8 +65,13 @@ module _ (g : Game) where
   unfoldable pub moveNumber : Player → Move → ℕ
   moveNumber p x = 1 + movesBefore g p (x .0) + x .1
 
+  -- the number of a sequence: 0 where it is empty, and else that of its last move
   unfoldable pub sequenceNumber : Player → Sequence → ℕ
   sequenceNumber p s = byLastMove 0 (moveNumber p) s
+
+  -- the number of the own sequence leading to set h, among those of the set's player
+  unfoldable pub leadingNumber : ℕ → ℕ
+  leadingNumber h = sequenceNumber (g .setPlayer h) (leading h)
 
   -- how many sequences p has
   unfoldable pub sequenceCount : Player → ℕ
@@ -73,5 +79,5 @@ module _ (g : Game) where
 
 -- To unfold this is to unfold all of this file: for closed computation.
 unfoldable pub opened : Unit {0}
-unfolding byLastMove acts walk ownSequence firstNode leading moveNumber sequenceNumber sequenceCount
+unfolding byLastMove acts walk ownSequence firstNode leading moveNumber sequenceNumber leadingNumber sequenceCount
 opened = tt

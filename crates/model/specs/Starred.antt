@@ -20,6 +20,7 @@ pub data Node : Type 0 where
   chance : (parent move weight count : ℕ) → Node
   leaf : (parent move weight : ℕ) → ℤ → ℤ → Node
 
+-- A node's fields; a number that its kind lacks is 0.
 abbrev pub kindOf : Node → ℕ
 kindOf (decision n m w h) = 1
 kindOf (chance n m w k) = 2
@@ -104,22 +105,23 @@ unfoldable pub planF : List ℕ
 planF = planBytes 1 2 (0 ∷ 1 ∷ 0 ∷ 0 ∷ 1 ∷ 1 ∷ [])
 
 -- "D1 = 1, R 1 with D2 = 3, l 2, r 1"
-unfoldable pub planR : List ℕ
-planR = planBytes 1 3 (0 ∷ 1 ∷ 0 ∷ 0 ∷ 2 ∷ 1 ∷ [])
+unfoldable pub planMixed : List ℕ
+planMixed = planBytes 1 3 (0 ∷ 1 ∷ 0 ∷ 0 ∷ 2 ∷ 1 ∷ [])
 
 -- "One leaf alone, H = 0, D0 = 7"
 unfoldable pub single : List ℕ
 single = gameFile 7 [] [] (leaf 0 0 7 (pos 5) (pos 6) ∷ [])
 
+-- the plan of a game without sets
 unfoldable pub bare : List ℕ
 bare = planBytes 1 1 []
 
 -- "A root of set 0, which has one move, with a child of set 0 and a leaf below that"
-unfoldable pub forgetful : List ℕ
-forgetful = gameFile 1 (0 ∷ []) (1 ∷ []) (decision 0 0 1 0 ∷ decision 0 0 1 0 ∷ leaf 1 0 1 (pos 0) (pos 0) ∷ [])
+unfoldable pub absentMinded : List ℕ
+absentMinded = gameFile 1 (0 ∷ []) (1 ∷ []) (decision 0 0 1 0 ∷ decision 0 0 1 0 ∷ leaf 1 0 1 (pos 0) (pos 0) ∷ [])
 
--- what is said of a pair of files: the refusal, both values, both best values, and the verdict
-pub record Said : Type 0 where
+-- what comes of a pair of files: the refusal, both values, both best values, and the verdict
+pub record Outcome : Type 0 where
   pub refusal : ℕ
   pub value1 : Fraction
   pub value2 : Fraction
@@ -127,8 +129,9 @@ pub record Said : Type 0 where
   pub best2 : Fraction
   pub answer : Verdict
 
-unfoldable pub said : (game plan : List ℕ) → Said
-said game plan =
+-- what the definitions give for a pair of files
+unfoldable pub outcome : (game plan : List ℕ) → Outcome
+outcome game plan =
     let g = gameOf game in
     let q = planPairOf g plan in
     record {
@@ -145,11 +148,12 @@ infix 6 _over_
 abbrev pub _over_ : ℤ → ℕ → Fraction
 _over_ count base = record { count = count; base = base }
 
+-- a row of the payoff table
 abbrev pub row : (s t : ℕ) → (a b : ℤ) → Row
 row s t a b = record { sequence1 = s; sequence2 = t; sum1 = a; sum2 = b }
 
 -- two files that fit: values, best values and the verdict
-abbrev pub fitting : (value1 value2 best1 best2 : Fraction) → Verdict → Said
+abbrev pub fitting : (value1 value2 best1 best2 : Fraction) → Verdict → Outcome
 fitting v1 v2 b1 b2 a = record { refusal = 0; value1 = v1; value2 = v2; best1 = b1; best2 = b2; answer = a }
 
 -- A case: what the definitions give, and what the document says.
@@ -172,17 +176,17 @@ starred =
     ∷ (take 8 (drop 72 study) is 0x00 ∷ 0x10 ∷ 0x10 ∷ 0x01 ∷ 0x00 ∷ 0x06 ∷ 0x00 ∷ 0x01 ∷ [])
     ∷ (payoffTable (gameOf study) is row 2 0 (pos 3) (pos 3) ∷ row 3 1 (pos 2) (pos 2) ∷ row 3 2 (pos 5) (pos 6) ∷ row 4 1 (pos 0) (pos 3) ∷ row 4 2 (pos 6) (pos 1) ∷ [])
     ∷ (planM is 0x10 ∷ 0x03 ∷ 0x00 ∷ 0x30 ∷ 0x00 ∷ 0x30 ∷ 0x00 ∷ 0x00 ∷ 0x10 ∷ 0x02 ∷ 0x00 ∷ 0x10 ∷ 0x02 ∷ [])
-    ∷ (said study planM is fitting (pos 36 over 9) (pos 24 over 9) (pos 12 over 3) (pos 8 over 3) equilibrium)
-    ∷ (said study planQ is fitting (pos 3 over 1) (pos 3 over 1) (pos 3 over 1) (pos 3 over 1) equilibrium)
-    ∷ (said study planF is fitting (pos 6 over 2) (pos 6 over 2) (pos 7 over 2) (pos 3 over 1) (deviation one (pos 1) ((0, 0) ∷ (2, 0) ∷ [])))
-    ∷ (said study planR is fitting (pos 9 over 3) (pos 9 over 3) (pos 9 over 3) (pos 3 over 1) equilibrium)
+    ∷ (outcome study planM is fitting (pos 36 over 9) (pos 24 over 9) (pos 12 over 3) (pos 8 over 3) equilibrium)
+    ∷ (outcome study planQ is fitting (pos 3 over 1) (pos 3 over 1) (pos 3 over 1) (pos 3 over 1) equilibrium)
+    ∷ (outcome study planF is fitting (pos 6 over 2) (pos 6 over 2) (pos 7 over 2) (pos 3 over 1) (deviation one (pos 1) ((0, 0) ∷ (2, 0) ∷ [])))
+    ∷ (outcome study planMixed is fitting (pos 9 over 3) (pos 9 over 3) (pos 9 over 3) (pos 3 over 1) equilibrium)
     ∷ (length single is 13)
     ∷ (length bare is 4)
-    ∷ (said single bare is fitting (pos 35 over 7) (pos 42 over 7) (pos 35 over 7) (pos 42 over 7) equilibrium)
-    ∷ (gameRefusal forgetful is 13)
+    ∷ (outcome single bare is fitting (pos 35 over 7) (pos 42 over 7) (pos 35 over 7) (pos 42 over 7) equilibrium)
+    ∷ (gameRefusal absentMinded is 13)
     ∷ []
 
 -- To unfold this is to unfold all of this file: for closed computation.
 unfoldable pub opened : Unit {0}
-unfolding study planM planQ planF planR single bare forgetful said
+unfolding study planM planQ planF planMixed single bare absentMinded outcome
 opened = tt

@@ -25,14 +25,15 @@ module _ (g : Game) where
   standsAt s t n = isLeaf g n && eqb (ownNumber one n) s && eqb (ownNumber two n) t
 
   -- chance weight × p's payoff at node n
-  unfoldable pub weighedPayoff : Player → ℕ → ℤ
-  weighedPayoff p n = pos (g .weight n) *ℤ g .payoff p n
+  unfoldable pub weightedPayoff : Player → ℕ → ℤ
+  weightedPayoff p n = pos (g .weight n) *ℤ g .payoff p n
 
   -- "the sum of chance weight × payoff over the leaves of that pair"
   -- "Document 003 gives one leaf per pair and is silent on chance; the sum decides."
   unfoldable pub pairSum : Player → (s t : ℕ) → ℤ
-  pairSum p s t = sumWhere (g .nodes) (standsAt s t) (weighedPayoff p)
+  pairSum p s t = sumWhere (g .nodes) (standsAt s t) (weightedPayoff p)
 
+  -- the row of sequences s and t
   unfoldable pub rowAt : (s t : ℕ) → List Row
   rowAt s t = record { sequence1 = s; sequence2 = t; sum1 = pairSum one s t; sum2 = pairSum two s t } ∷ []
 
@@ -46,5 +47,5 @@ module _ (g : Game) where
 
 -- To unfold this is to unfold all of this file: for closed computation.
 unfoldable pub opened : Unit {0}
-unfolding ownNumber standsAt weighedPayoff pairSum rowAt rowsAt payoffTable
+unfolding ownNumber standsAt weightedPayoff pairSum rowAt rowsAt payoffTable
 opened = tt

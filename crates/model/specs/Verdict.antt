@@ -23,6 +23,7 @@ module _ (g : Game) (q : PlanPair) where
   unfoldable pub gain : Player → ℤ
   gain p = scaledBest p -ℤ valueCount g q p
 
+  -- p's deviation, as it is shown
   unfoldable pub deviates : Player → Verdict
   deviates p = deviation p (gain p) (bestResponse g p (q (other p)))
 

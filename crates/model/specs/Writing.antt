@@ -5,7 +5,6 @@ use mathlib.Core.List.{List, [], _∷_, _++_}
 use lib.ListN.{length, getD}
 use lib.Dec.{eqb, ltb}
 use lib.IntN.{ℤ, pos, negsuc}
-use lib.Signed.{mag}
 use Rattle.algebra.specs.Bounded.{allTo, joinTo, listTo}
 use Rattle.model.specs.Bits.{bits, runBits, pack, twosComplement}
 use Rattle.model.specs.Game.{Game, Player, one, two, playerBit, isLeaf, isDecision, isChance}
@@ -13,7 +12,7 @@ use Rattle.model.specs.Game.{Game, Player, one, two, playerBit, isLeaf, 
 -- What the game writer is given: D0 and one list a field, those of the sets and those of the nodes side by side.
 pub record GameFields : Type 0 where
   pub rootWeight : ℕ
-  pub setPlayers : List ℕ
+  pub setPlayers : List ℕ  -- 0 is player 1
   pub setMoves : List ℕ
   pub kinds : List ℕ
   pub parents : List ℕ
@@ -24,39 +23,70 @@ pub record GameFields : Type 0 where
   pub payoffs1 : List ℤ
   pub payoffs2 : List ℤ
 
+-- D0 and the ten lists as one record
+abbrev pub gameFields : (rootWeight : ℕ) → (setPlayers setMoves kinds parents moves weights nodeSets chanceMoves : List ℕ) → (payoffs1 payoffs2 : List ℤ) → GameFields
+gameFields rootWeight setPlayers setMoves kinds parents moves weights nodeSets chanceMoves payoffs1 payoffs2 = record {
+  rootWeight = rootWeight;
+  setPlayers = setPlayers;
+  setMoves = setMoves;
+  kinds = kinds;
+  parents = parents;
+  moves = moves;
+  weights = weights;
+  nodeSets = nodeSets;
+  chanceMoves = chanceMoves;
+  payoffs1 = payoffs1;
+  payoffs2 = payoffs2;
+}
+
+-- The fields of a game by number; a number that a node's kind lacks is 0.
 module _ (g : Game) where
+  -- the player of set h, as its bit
+  unfoldable pub playerField : (h : ℕ) → ℕ
+  playerField h = playerBit (g .setPlayer h)
+
+  -- the set of node n, 0 where it is no decision
+  unfoldable pub setField : (n : ℕ) → ℕ
+  setField n = cond (isDecision g n) (g .nodeSet n) 0
+
+  -- the move count of node n, 0 where chance does not move
+  unfoldable pub movesField : (n : ℕ) → ℕ
+  movesField n = cond (isChance g n) (g .chanceMoves n) 0
+
   -- a payoff of node n, 0 where it is no leaf
   unfoldable pub payoffField : Player → ℕ → ℤ
   payoffField p n = cond (isLeaf g n) (g .payoff p n) (pos 0)
 
-  -- the fields of a game; a number that a node's kind lacks is 0
+  -- all of them
   unfoldable pub fieldsOf : GameFields
   fieldsOf = record {
     rootWeight = g .rootWeight;
-    setPlayers = listTo (g .sets) (λ h. playerBit (g .setPlayer h));
+    setPlayers = listTo (g .sets) playerField;
     setMoves = listTo (g .sets) (g .setMoves);
     kinds = listTo (g .nodes) (g .kind);
     parents = listTo (g .nodes) (g .parent);
     moves = listTo (g .nodes) (g .move);
     weights = listTo (g .nodes) (g .weight);
-    nodeSets = listTo (g .nodes) (λ n. cond (isDecision g n) (g .nodeSet n) 0);
-    chanceMoves = listTo (g .nodes) (λ n. cond (isChance g n) (g .chanceMoves n) 0);
+    nodeSets = listTo (g .nodes) setField;
+    chanceMoves = listTo (g .nodes) movesField;
     payoffs1 = listTo (g .nodes) (payoffField one);
     payoffs2 = listTo (g .nodes) (payoffField two);
   }
 
--- the entry of a list at a place
+-- the entry of a list at a place; 0 past its end
 abbrev pub entry : List ℕ → ℕ → ℕ
 entry l i = getD l i 0
 
+-- the integer of a list at a place; 0 past its end
 abbrev pub entryZ : List ℤ → ℕ → ℤ
 entryZ l i = getD l i (pos 0)
 
 module _ (t : GameFields) where
-  -- "They take the counts from the lengths of the tables": H and N
+  -- H: "They take the counts from the lengths of the tables"
   unfoldable pub setCount : ℕ
   setCount = length (t .setPlayers)
 
+  -- N, the length of the nodes' tables
   unfoldable pub nodeCount : ℕ
   nodeCount = length (t .kinds)
 
@@ -96,11 +126,18 @@ unfoldable pub allFit : (width : ℕ) → List ℕ → Bool
 allFit width [] = true
 allFit width (x ∷ l) = ltb x (2 ^ width) && allFit width l
 
--- the same for two's complement: "too large, or too small for a signed one"
+-- an integer fits two's complement of `width` bits, neither "too large" nor "too small for a signed one":
+-- it is from -2 ^ (width - 1) to 2 ^ (width - 1) - 1. `negsuc n` is -(n + 1).
+unfoldable pub fitsSigned : (width : ℕ) → ℤ → Bool
+fitsSigned width (pos n) = ltb (2 * n) (2 ^ width)
+fitsSigned width (negsuc n) = ltb (2 * n) (2 ^ width)
+
+-- every integer of the list fits
 unfoldable pub allFitSigned : (width : ℕ) → List ℤ → Bool
 allFitSigned width [] = true
-allFitSigned width (z ∷ l) = ltb (2 * mag z) (2 ^ width) && allFitSigned width l
+allFitSigned width (z ∷ l) = fitsSigned width z && allFitSigned width l
 
+-- the integer is 0
 abbrev pub isZero : ℤ → Bool
 isZero (pos zero) = true
 isZero (pos (suc n)) = false
@@ -152,5 +189,5 @@ planFieldsFit d1 d2 weights = allFit 12 (d1 ∷ d2 ∷ weights)
 
 -- To unfold this is to unfold all of this file: for closed computation.
 unfoldable pub opened : Unit {0}
-unfolding payoffField fieldsOf setCount nodeCount setBits payloadBits nodeBits headerBits gameBytes planBytes allFit allFitSigned kindFits sideBySide numbersFit gameFieldsFit planFieldsFit
+unfolding playerField setField movesField payoffField fieldsOf setCount nodeCount setBits payloadBits nodeBits headerBits gameBytes planBytes allFit fitsSigned allFitSigned kindFits sideBySide numbersFit gameFieldsFit planFieldsFit
 opened = tt

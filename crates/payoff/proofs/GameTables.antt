@@ -7,29 +7,24 @@ use native.Mathlib.Omega.{arith}
 use lib.Dec.{T, eqb}
 use lib.ListN.{length}
 use lib.IntN.{ℤ, pos}
-use mir.Syntax.{w64}
-use mir.Val.{SFits}
 use mir.Facts.{and-yes, yes-and}
 use Rattle.algebra.specs.Bounded.{sumTo, sumWhere, anyTo}
 use Rattle.algebra.proofs.Tests.{bool-same}
 use Rattle.algebra.proofs.Lists.{joinTo-cong}
 use Rattle.algebra.proofs.Searches.{anyTo-find, anyTo-make}
-use Rattle.algebra.proofs.Counts.{only-most}
 use Rattle.algebra.proofs.Sums.{onlyZ, onlyZ-and, sum-cong, whereZ-is}
+use Rattle.algebra.proofs.Entries.{Every, every-where, every-join, Among, among-where, among-join}
 use Rattle.model.specs.Game.{Game, Player, one, two, isLeaf}
-use Rattle.model.specs.Sequences.{extended, leading, sequenceCount}
-use Rattle.model.specs.Earnings.{consistent}
-use Rattle.model.specs.Table.{ownNumber, standsAt, weighedPayoff, pairSum, rowAt, rowsAt, payoffTable}
+use Rattle.model.specs.Sequences.{sequenceCount}
+use Rattle.model.specs.Table.{ownNumber, standsAt, pairSum, rowAt, rowsAt, payoffTable, weightedPayoff}
 use Rattle.model.specs.Demand1.{GameRules}
-use Rattle.model.proofs.Budget.{GameLimits, PlanLimits, budget}
+use Rattle.model.proofs.Budget.{GameLimits, table-fits}
 use Rattle.model.proofs.Numbers.{own-number-below, sequences-few}
-use Rattle.model.proofs.Strategies.{purePlan, pure-fits, some-pure}
-use Rattle.gather.specs.Leaves.{leafAt, leavesBelow, leavesOf, leafOf, Column, Gathered, ofPlayer}
+use Rattle.gather.specs.Leaves.{leafAt, leavesBelow, leavesOf, leafOf, Column, Gathered}
 use Rattle.payoff.specs.Table.{Keyed, weighedAt, standsBy, pairSumBy, rowOf, rowsBy, tableBy, TableIn, Addable, Tabular}
-use Rattle.payoff.proofs.Entries.{Every, every-where, every-join, Among, among-where, among-join}
 use Rattle.gather.proofs.Gathering.{all-few}
 use Rattle.gather.proofs.LeafSums.{leaves-sum, leaves-prefix, leaf-in}
-use Rattle.gather.proofs.LeafColumns.{player-leaves}
+use Rattle.gather.proofs.LeafColumns.{player-leaves, ofPlayer}
 
 module _ (g : Game) where
   -- the leaves are leaves
@@ -57,21 +52,13 @@ module _ (g : Game) where
 
   -- what node n counts at the pair
   abbrev counts : (p : Player) (s t n : ℕ) → ℤ
-  counts p s t n = onlyZ (atPair s t n) (weighedPayoff g p n)
+  counts p s t n = onlyZ (atPair s t n) (weightedPayoff g p n)
 
-  leaves-at : (p : Player) (s t m : ℕ) → sumWhere m (isLeaf g) (counts p s t) ≡ sumWhere m (standsAt g s t) (weighedPayoff g p)
+  leaves-at : (p : Player) (s t m : ℕ) → sumWhere m (isLeaf g) (counts p s t) ≡ sumWhere m (standsAt g s t) (weightedPayoff g p)
   leaves-at p s t m =
       whereZ-is m (isLeaf g) (counts p s t)
-      ∙ sum-cong m _ _ (λ n l. onlyZ-and (isLeaf g n) (atPair s t n) (weighedPayoff g p n) ∙ ap (λ (b : Bool). onlyZ b (weighedPayoff g p n)) (sym (stands-is s t n)))
-      ∙ sym (whereZ-is m (standsAt g s t) (weighedPayoff g p))
-
-  -- Partial sums of a pair are in range by the budget of a pair of plans, here the plans that take each set's first move.
-  table-fits : GameRules g → GameLimits g → (p : Player) (s t k : ℕ) → k ≤ g .nodes → SFits w64 (sumWhere k (standsAt g s t) (weighedPayoff g p))
-  unfolding purePlan
-  table-fits R M = budget g R M (λ p. purePlan g (λ h. 0)) (λ p. pure-fits g R p (λ h. 0) (some-pure g R p)) (λ p. small) .table
-    where
-      small : PlanLimits (purePlan g (λ h. 0))
-      small = record { denominator = omega arith; weights = λ h m. omega (arith, only-most (consistent (λ h. 0) (extended (leading g h) h m)) 1) }
+      ∙ sum-cong m _ _ (λ n l. onlyZ-and (isLeaf g n) (atPair s t n) (weightedPayoff g p n) ∙ ap (λ (b : Bool). onlyZ b (weightedPayoff g p n)) (sym (stands-is s t n)))
+      ∙ sym (whereZ-is m (standsAt g s t) (weightedPayoff g p))
 
   module _ {count : ℕ} {first second chance : List ℕ} {payoffs1 payoffs2 : List ℤ} (L : Gathered g count first second chance payoffs1 payoffs2) where
     -- a place stands at the pair where its leaf does
@@ -84,7 +71,7 @@ module _ (g : Game) where
 
     -- the first leaves of a pair, added up
     prefix-is : (p : Player) (s t j : ℕ) → j ≤ count → pairSumBy first second chance (ofPlayer p payoffs1 payoffs2) j s t ≡ sumTo j (λ k. counts p s t (leafOf g k))
-    unfolding pairSumBy weighedAt weighedPayoff
+    unfolding pairSumBy weighedAt weightedPayoff
     prefix-is p s t j l =
         whereZ-is j _ _
         ∙ sum-cong j _ _ (λ k v. let u : k < length (leavesOf g) = omega (arith, L .counted) in rw (place-is s t k u, L .chance-is .at 0 k u, payoff-is p .at (pos 0) k u))
@@ -123,12 +110,12 @@ module _ (g : Game) where
     table-is = joinTo-cong (sequenceCount g one) _ _ (λ s l. joinTo-cong (sequenceCount g two) _ _ (λ t v. rw (any-is s t, sum-is one s t, sum-is two s t)))
 
     -- no partial sum leaves its range
-    addable : GameLimits g → ((p : Player) (s t k : ℕ) → k ≤ g .nodes → SFits w64 (sumWhere k (standsAt g s t) (weighedPayoff g p))) → (p : Player) → Addable count first second chance (ofPlayer p payoffs1 payoffs2)
-    addable M fits p = record {
+    addable : GameLimits g → (p : Player) → Addable count first second chance (ofPlayer p payoffs1 payoffs2)
+    addable M p = record {
       chance-long = omega (arith, L .counted, L .chance-is .long);
       payoffs-long = omega (arith, L .counted, payoff-is p .long);
       chance-small = λ k l. rw (L .chance-is .at 0 k (omega (arith, L .counted))) (M .weights (leafOf g k));
-      fit = λ n s t l. let r = leaves-prefix g (counts p s t) n (omega (arith, L .counted)) in rw (prefix-is p s t n l, r .2, leaves-at p s t (r .0)) (fits p s t (r .0) (r .1));
+      fit = λ n s t l. let r = leaves-prefix g (counts p s t) n (omega (arith, L .counted)) in rw (prefix-is p s t n l, r .2, leaves-at p s t (r .0)) (table-fits g M p s t (r .0) (r .1));
     }
 
     -- a player's sequence numbers are keys
@@ -146,8 +133,8 @@ module _ (g : Game) where
       few-leaves = omega (arith, L .counted, all-few g, M .nodes);
       few1 = omega (arith, sequences-few g R one, M .nodes);
       few2 = omega (arith, sequences-few g R two, M .nodes);
-      addable1 = addable M (table-fits R M) one;
-      addable2 = addable M (table-fits R M) two;
+      addable1 = addable M one;
+      addable2 = addable M two;
     }
 
     -- what it leaves in the slices is the game's table

@@ -1,4 +1,3 @@
-pub mod Entries
 pub mod GameTables
 pub mod Listings
 pub mod Numbering

@@ -10,7 +10,7 @@ use Rattle.algebra.specs.Bounded.{countTo, implies}
 use Rattle.algebra.proofs.Tests.{T→true, not→false}
 use Rattle.algebra.proofs.Counts.{count-cong}
 use Rattle.model.specs.Game.{Game, Player, one, two, gameOf, playerOf, owns, movesBefore}
-use Rattle.model.specs.Sequences.{leading, moveNumber, sequenceNumber, sequenceCount}
+use Rattle.model.specs.Sequences.{leading, moveNumber, sequenceNumber, leadingNumber, sequenceCount}
 use Rattle.model.specs.Plan.{balanced, fits, pairFits}
 use Rattle.model.specs.Writing.{entry}
 use Rattle.model.specs.Demand1.{GameRules}
@@ -22,9 +22,9 @@ use Rattle.game.specs.declared.SetEntry.{SetEntry}
 use Rattle.game.specs.Answers.{checkedOf}
 use Rattle.game.specs.Records.{SetRead}
 use Rattle.game.specs.Sets.{firstSequence}
-use Rattle.game.proofs.Loops.{first-broken, then-second}
 use Rattle.game.proofs.Own.{bits-same}
 use Rattle.game.proofs.Leading.{read-player}
+use Rattle.game.proofs.Answers.{first-broken, then-second}
 use Rattle.plan.specs.Weights.{planByNumber, pairByNumber}
 use Rattle.plan.proofs.ByNumber.{weight-at}
 
@@ -41,10 +41,10 @@ pub record Stand (g : Game) (p : Player) (x : List ℕ) (h start moves number : 
 
 module _ (g : Game) (rules : GameRules g) (p : Player) (x : List ℕ) (h : ℕ) (l : h < g .sets) (o : T (owns g p h)) where
   -- where they stand
-  pub stand : (start moves number : ℕ) → start ≡ firstSequence g h → moves ≡ g .setMoves h → number ≡ sequenceNumber g (g .setPlayer h) (leading g h) → Stand g p x h start moves number
-  unfolding firstSequence sequenceCount balanced implies moveNumber planByNumber
+  pub stand : (start moves number : ℕ) → start ≡ firstSequence g h → moves ≡ g .setMoves h → number ≡ leadingNumber g h → Stand g p x h start moves number
+  unfolding firstSequence leadingNumber sequenceCount balanced implies moveNumber planByNumber
   stand start moves number s m n =
-      let begins : start ≡ 1 + movesBefore g p h = s ∙ rw (owner g p h o) in
+      let begins : start ≡ 1 + movesBefore g p h = omega (arith, s, ap (λ (r : Player). movesBefore g r h) (owner g p h o)) in
       let leads : number ≡ sequenceNumber g p (leading g h) = n ∙ ap (λ (r : Player). sequenceNumber g r (leading g h)) (owner g p h o) in
       record {
         few = omega (arith, rules .set-moves h l);

@@ -7,22 +7,22 @@ use native.Mathlib.Omega.{arith}
 use lib.ListN.{length}
 use lib.Dec.{T, eqb}
 use Rattle.algebra.specs.Bounded.{implies}
+use Rattle.algebra.specs.Arrays.{Holds, over}
 use Rattle.algebra.proofs.Counts.{count-cong}
 use Rattle.algebra.proofs.Searches.{allTo-cong}
+use Rattle.algebra.proofs.Fillings.{filled}
 use Rattle.model.specs.Game.{Game, Player, one, two, owns, movesBefore}
 use Rattle.model.specs.Sequences.{Move, Sequence, byLastMove, leading, moveNumber, sequenceNumber, sequenceCount}
 use Rattle.model.specs.Plan.{sequenceWeight, balanced, fits, pairFits, weightsBefore, weightPlace, weightBit, planPairOf}
 use Rattle.model.specs.Demand1.{GameRules}
-use Rattle.model.specs.Demand2.{ByNumber}
-use Rattle.model.specs.Table.{ownNumber}
 use Rattle.model.specs.Writing.{entry}
+use Rattle.model.specs.Budget.{weightLimit}
 use Rattle.model.proofs.Bits.{field-fits}
 use Rattle.model.proofs.Budget.{plan-limits}
 use Rattle.model.proofs.Numbers.{moves-block, number-below}
 use Rattle.model.proofs.Tree.{leading-sequence}
 use Rattle.game.specs.declared.Checked.{Checked}
-use Rattle.game.specs.Answers.{checkedOf, Holds, over}
-use Rattle.game.proofs.Recalls.{filled}
+use Rattle.game.specs.Answers.{checkedOf}
 use Rattle.plan.specs.Weights.{weightsFrom, weightByNumber, planByNumber, pairByNumber, Weights}
 
 -- the weight of a sequence, in a plan whose weights go by number, is that of its number
@@ -49,23 +49,13 @@ module _ (g : Game) (plan : List ℕ) (p : Player) where
   pub weight-is : (s : Sequence) → weightByNumber g plan p (sequenceNumber g p s) ≡ sequenceWeight (planPairOf g plan p) s
   weight-is s = rw plan-is (sym (weight-at g p (weightByNumber g plan p) s))
 
-  -- by the number of the own sequence to a node
-  pub by-number : ByNumber g p (planPairOf g plan p) (weightByNumber g plan p)
-  unfolding ownNumber
-  by-number n l = weight-is _
-
-  -- by the number of a move
-  pub move-weight-is : (h m : ℕ) → weightByNumber g plan p (moveNumber g p (h, m)) ≡ planPairOf g plan p .moveWeight h m
-  unfolding planByNumber
-  move-weight-is h m = rw plan-is
-
   -- an array that is filled with the weights from the place where p's begin
   pub by-number-from : {denominator before moves : ℕ} {x : List ℕ} (l : List ℕ) → x ≡ over (weightsFrom plan denominator before) (1 + moves) l → denominator ≡ planPairOf g plan p .denominator → before ≡ weightsBefore g p → moves ≡ movesBefore g p (g .sets) → x ≡ over (weightByNumber g plan p) (sequenceCount g p) l
   unfolding weightByNumber sequenceCount
   by-number-from l e d b m = e ∙ rw (d, b, m)
 
   -- each is a number of 12 bits, which 16 hold
-  pub small-number : (n : ℕ) → weightByNumber g plan p n ≤ 65535
+  pub small-number : (n : ℕ) → weightByNumber g plan p n ≤ weightLimit
   unfolding weightByNumber weightsFrom
   small-number zero = plan-limits g plan p .denominator
   small-number (suc k) = omega (arith, field-fits plan (32 + 12 * (weightsBefore g p + k)) 12)

@@ -5,10 +5,9 @@ use mathlib.Core.List.{List, [], _∷_}
 use native.Mathlib.Omega.{arith}
 use lib.ListN.{length, set}
 use Rattle.algebra.specs.Bounded.{listTo}
-use Rattle.algebra.specs.Arrays.{placed}
+use Rattle.algebra.specs.Arrays.{placed, over}
 use Rattle.algebra.proofs.Lists.{listTo-cong, length-listTo, joinTo-first}
 use Rattle.model.specs.Bits.{field, fields}
-use Rattle.game.specs.Answers.{over}
 use Rattle.plan.specs.Weights.{weightsFrom}
 
 -- the first entry, and then the others, given anew

@@ -14,7 +14,7 @@ use Rattle.model.specs.PlanChecks.{planLength, planHasLength, filling, planWell
 use Rattle.model.proofs.PlanRules.{plan-length-iff}
 use Rattle.game.specs.declared.Checked.the-variants.{Fine, Broken}
 use Rattle.game.specs.Answers.{checkedOf}
-use Rattle.game.proofs.Loops.{is-fine, is-broken}
+use Rattle.game.proofs.Answers.{is-fine, is-broken}
 use Rattle.plan.specs.declared.PlanHeader.{PlanHeader}
 use Rattle.plan.specs.Header.{denominatorsOf, planHeaderOf, headerRight}
 

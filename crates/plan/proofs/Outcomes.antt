@@ -6,6 +6,7 @@ use mathlib.Core.List.{List}
 use native.Mathlib.Omega.{arith}
 use lib.Dec.{eqb}
 use lib.ListN.{length}
+use Rattle.algebra.specs.Arrays.{over}
 use Rattle.model.specs.Game.{Game, Player, one, two, gameOf, movesBefore}
 use Rattle.model.specs.Sequences.{sequenceCount}
 use Rattle.model.specs.Plan.{weightsBefore, planMoves}
@@ -13,7 +14,6 @@ use Rattle.model.specs.Demand1.{GameRules}
 use Rattle.model.proofs.Budget.{game-limits}
 use Rattle.model.proofs.Numbers.{plan-moves-few, sequences-few}
 use Rattle.game.specs.declared.SequenceCounts.{SequenceCounts}
-use Rattle.game.specs.Answers.{over}
 use Rattle.game.specs.Sets.{countsOf}
 use Rattle.plan.specs.declared.Denominators.{Denominators}
 use Rattle.plan.specs.declared.PlanAnswer.the-variants.{Fits}

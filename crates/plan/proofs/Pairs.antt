@@ -9,15 +9,16 @@ use borrow.Author.Tests.{ne-eqb}
 use lib.Dec.{eqb}
 use lib.ListN.{length}
 use Rattle.algebra.specs.Bounded.{listTo}
-use Rattle.algebra.specs.Arrays.{placed}
+use Rattle.algebra.specs.Arrays.{placed, Holds, over}
 use Rattle.algebra.proofs.Lists.{length-listTo, listTo-cong, listTo-plus}
 use Rattle.algebra.proofs.Arrays.{placed-twice}
+use Rattle.algebra.proofs.Fillings.{filled}
 use Rattle.model.specs.Bits.{field, fields}
 use Rattle.model.specs.Game.{Game, Player, gameOf, one, two, movesBefore}
 use Rattle.model.specs.Sequences.{sequenceCount}
 use Rattle.model.specs.Refusals.{firstFailing, along, numbers}
 use Rattle.model.specs.GameChecks.{gameChecks, headerChecks, treeChecks, gameRefusal}
-use Rattle.model.specs.Plan.{planMoves, planWeights, weightsBefore}
+use Rattle.model.specs.Plan.{planMoves, planWeights, weightBit, weightsBefore}
 use Rattle.model.specs.PlanChecks.{Files, planChecks, pairChecks, pairRefusal}
 use Rattle.model.proofs.Refusals.{first-append, first-along, first-below}
 use Rattle.model.specs.Writing.{entry}
@@ -26,11 +27,9 @@ use Rattle.game.specs.declared.SequenceCounts.{SequenceCounts}
 use Rattle.model.proofs.Demand1.{game-rules}
 use Rattle.model.proofs.Budget.{game-limits}
 use Rattle.model.proofs.Numbers.{sequences-few}
-use Rattle.game.specs.Answers.{Holds, over}
 use Rattle.game.specs.Records.{headerOf}
 use Rattle.game.specs.Sets.{countsOf}
 use Rattle.game.proofs.Outcomes.{Sent}
-use Rattle.game.proofs.Recalls.{filled}
 use Rattle.plan.specs.declared.Denominators.{Denominators}
 use Rattle.plan.specs.declared.PairHeader.{PairHeader}
 use Rattle.plan.specs.declared.PlanAnswer.{PlanAnswer}
@@ -159,7 +158,7 @@ pair-counted game plan o =
 
 -- arrays with both players' weights give the file's, in its order
 pub file-order : (g : Game) (plan x y : List ℕ) → Holds (weightByNumber g plan one) (sequenceCount g one) x → Holds (weightByNumber g plan two) (sequenceCount g two) y → inFileOrder (countsOf g) x y ≡ planWeights g plan
-unfolding inFileOrder planWeights fields planMoves countsOf sequenceCount weightByNumber weightsFrom weightsBefore
+unfolding inFileOrder planWeights weightBit fields planMoves countsOf sequenceCount weightByNumber weightsFrom weightsBefore
 file-order g plan x y a b =
     let m = movesBefore g one (g .sets) in
     let n = movesBefore g two (g .sets) in

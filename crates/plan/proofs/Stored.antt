@@ -1,4 +1,4 @@
--- Arrays that hold a plan file's weights by number serve for its plans: values, best responses and the verdict are the same.
+-- Arrays that hold a plan file's weights by number serve for its plans: values and best responses are the same.
 use Prim.Native.Nat.{ℕ, _≤_}
 use mathlib.Core.Path.{_≡_, _∙_}
 use mathlib.Core.Bool.{true}
@@ -6,26 +6,25 @@ use mathlib.Core.List.{List}
 use native.Mathlib.Omega.{arith}
 use native.Mathlib.Decide.{decLt}
 use lib.ListN.{length, getD, replicate, length-replicate, getD-replicate, List·getD-eq-default}
+use Rattle.algebra.specs.Arrays.{Holds, over}
 use Rattle.algebra.proofs.Tests.{T→true}
+use Rattle.algebra.proofs.Fillings.{over-at, over-past}
 use Rattle.model.specs.Game.{Game, Player, one, two, other, gameOf}
 use Rattle.model.specs.Sequences.{ownSequence, sequenceCount}
 use Rattle.model.specs.Plan.{weightAt, pairFits, planPairOf}
 use Rattle.model.specs.PlanChecks.{pairRefusal}
 use Rattle.model.specs.Earnings.{valueCount}
 use Rattle.model.specs.BestResponse.{bestCount, bestMove}
-use Rattle.model.specs.Verdict.{verdict}
 use Rattle.model.specs.Demand1.{GameRules}
 use Rattle.model.specs.Writing.{entry}
-use Rattle.model.proofs.SamePlans.{SameWeights, best-count-agrees, best-move-agrees, value-count-agrees, verdict-agrees}
+use Rattle.model.specs.Budget.{weightLimit}
+use Rattle.model.proofs.SamePlans.{SameWeights, best-count-agrees, best-move-agrees, value-count-agrees}
 use Rattle.model.proofs.Demand1.{game-rules, plan-rules, pair-parts}
 use Rattle.model.proofs.Numbers.{number-below}
 use Rattle.model.proofs.PlanRules.{pair-fits-iff}
 use Rattle.model.proofs.Tree.{own-sequence}
-use Rattle.game.specs.Answers.{Holds, over}
-use Rattle.game.proofs.Loops.{over-at, over-past}
-use Rattle.plan.specs.Weights.{weightsFrom, weightByNumber, planByNumber, pairByNumber, Small}
+use Rattle.plan.specs.Weights.{weightByNumber, planByNumber, pairByNumber, Small}
 use Rattle.plan.proofs.ByNumber.{weight-at, weight-is, small-number, same-pair-fits}
-use Rattle.plan.proofs.Outcomes.{some-sequence}
 
 -- One player's array.
 module _ (g : Game) (rules : GameRules g) (plan : List ℕ) (p : Player) {x : List ℕ} (held : Holds (weightByNumber g plan p) (sequenceCount g p) x) where
@@ -36,17 +35,8 @@ module _ (g : Game) (rules : GameRules g) (plan : List ℕ) (p : Player) {x : Li
       let s = ownSequence g p n in
       weight-at g p (entry x) s ∙ held .at _ (number-below g p s (own-sequence g rules p n l)) ∙ weight-is g plan p s
 
-  -- and the denominator is the file's
-  pub stored-denominator : planByNumber g p (entry x) .denominator ≡ planPairOf g plan p .denominator
-  unfolding planByNumber weightByNumber weightsFrom
-  stored-denominator = held .at 0 (omega (arith, some-sequence g p))
-
 -- Player p against the other's array.
 module _ (g : Game) (rules : GameRules g) (plan : List ℕ) (p : Player) {y : List ℕ} (held : Holds (weightByNumber g plan (other p)) (sequenceCount g (other p)) y) where
-  -- his best value
-  pub stored-best-count : bestCount g p (planByNumber g (other p) (entry y)) ≡ bestCount g p (planPairOf g plan (other p))
-  stored-best-count = best-count-agrees g p _ _ (stored-weight g rules plan (other p) held)
-
   -- his best moves
   pub stored-best-move : (h : ℕ) → bestMove g p (planByNumber g (other p) (entry y)) h ≡ bestMove g p (planPairOf g plan (other p)) h
   stored-best-move h = best-move-agrees g p _ _ (stored-weight g rules plan (other p) held) h
@@ -59,12 +49,6 @@ module _ (g : Game) (rules : GameRules g) (plan : List ℕ) {x y : List ℕ} (he
   stored-weights one = stored-weight g rules plan one held1
   stored-weights two = stored-weight g rules plan two held2
 
-  -- and the denominators are the file's
-  pub stored-denominators : (p : Player) → pairByNumber g (entry x) (entry y) p .denominator ≡ planPairOf g plan p .denominator
-  unfolding pairByNumber
-  stored-denominators one = stored-denominator g rules plan one held1
-  stored-denominators two = stored-denominator g rules plan two held2
-
   -- each player's value
   pub stored-value : (p : Player) → valueCount g (pairByNumber g (entry x) (entry y)) p ≡ valueCount g (planPairOf g plan) p
   stored-value p = value-count-agrees g (pairByNumber g (entry x) (entry y)) (planPairOf g plan) stored-weights p
@@ -72,14 +56,6 @@ module _ (g : Game) (rules : GameRules g) (plan : List ℕ) {x y : List ℕ} (he
   -- his best value against the other's plan
   pub stored-best : (p : Player) → bestCount g p (pairByNumber g (entry x) (entry y) (other p)) ≡ bestCount g p (planPairOf g plan (other p))
   stored-best p = best-count-agrees g p _ _ (stored-weights (other p))
-
-  -- his best moves against it
-  pub stored-move : (p : Player) (h : ℕ) → bestMove g p (pairByNumber g (entry x) (entry y) (other p)) h ≡ bestMove g p (planPairOf g plan (other p)) h
-  stored-move p h = best-move-agrees g p _ _ (stored-weights (other p)) h
-
-  -- the verdict on the pair
-  pub stored-verdict : verdict g (pairByNumber g (entry x) (entry y)) ≡ verdict g (planPairOf g plan)
-  stored-verdict = verdict-agrees g (pairByNumber g (entry x) (entry y)) (planPairOf g plan) stored-weights stored-denominators
 
 -- the arrays of two files that are not sent back give a pair that fits
 pub stored-fits : (game plan : List ℕ) {x y : List ℕ} → pairRefusal game plan ≡ 0 → Holds (weightByNumber (gameOf game) plan one) (sequenceCount (gameOf game) one) x → Holds (weightByNumber (gameOf game) plan two) (sequenceCount (gameOf game) two) y → pairFits (gameOf game) (pairByNumber (gameOf game) (entry x) (entry y)) ≡ true
@@ -98,7 +74,7 @@ stored-small g plan p l e small i v =
       | no b ↦ rw (over-past 0 (weightByNumber g plan p) (sequenceCount g p) l i (omega arith)) (held i)
     ]
   where
-    held : (i : ℕ) → getD l i 0 ≤ 65535
+    held : (i : ℕ) → getD l i 0 ≤ weightLimit
     held i =
         elim (decLt i (length l)) [
           | yes b ↦ small i b

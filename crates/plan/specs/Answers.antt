@@ -4,13 +4,13 @@ use mathlib.Core.Bool.{cond, _||_}
 use mathlib.Core.List.{List, _++_}
 use lib.Dec.{eqb}
 use Rattle.algebra.specs.Bounded.{listTo}
+use Rattle.algebra.specs.Arrays.{over}
 use Rattle.model.specs.Game.{Player, gameOf}
 use Rattle.model.specs.Sequences.{sequenceCount}
 use Rattle.model.specs.Refusals.{firstFailing}
 use Rattle.model.specs.PlanChecks.{planChecks}
 use Rattle.model.specs.Writing.{entry}
 use Rattle.game.specs.declared.SequenceCounts.{SequenceCounts}
-use Rattle.game.specs.Answers.{over}
 use Rattle.game.specs.Records.{headerOf}
 use Rattle.game.specs.Sets.{countsOf}
 use Rattle.plan.specs.declared.PlanAnswer.{PlanAnswer}

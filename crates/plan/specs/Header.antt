@@ -4,16 +4,18 @@ use mathlib.Core.Bool.{Bool, _&&_}
 use mathlib.Core.List.{List}
 use lib.Dec.{eqb, ltb}
 use Rattle.model.specs.Bits.{field}
+use Rattle.model.specs.Game.{one, two}
+use Rattle.model.specs.Plan.{denominatorAt, headerZerosAt}
 use Rattle.plan.specs.declared.Denominators.{Denominators}
 use Rattle.plan.specs.declared.PlanHeader.{PlanHeader}
 
 -- D1 and D2
 unfoldable pub denominatorsOf : List ℕ → Denominators
-denominatorsOf plan = record { first = field plan 4 12; second = field plan 16 12 }
+denominatorsOf plan = record { first = field plan (denominatorAt one) 12; second = field plan (denominatorAt two) 12 }
 
 -- edition, D1 and D2, and four bits that must be zero
 unfoldable pub planHeaderOf : List ℕ → PlanHeader
-planHeaderOf plan = record { edition = field plan 0 4; denominators = denominatorsOf plan; zeros = field plan 28 4 }
+planHeaderOf plan = record { edition = field plan 0 4; denominators = denominatorsOf plan; zeros = field plan headerZerosAt 4 }
 
 -- the edition is 1, D1 and D2 are not zero, the zero bits are
 unfoldable pub headerRight : PlanHeader → Bool

@@ -1,20 +1,9 @@
 // Where each field of a plan file's header stands: nothing outside this file knows it.
 ghost use mathlib.Core.Path.{_≡_};
-ghost use Rattle.plan.specs.Header.{denominatorsOf, planHeaderOf};
+ghost use Rattle.plan.specs.Header.{planHeaderOf};
 use super::Denominators;
 use super::PlanHeader;
-
-impl Denominators {
-    // D1 and D2 of a file.
-    fn read(plan: &[u8]) -> Self
-        ensures { λ r. ⌜ r ≡ denominatorsOf (now (plan .entry)) ⌝ }
-    {
-        Denominators {
-            first: bits::field(plan, 4, 12),
-            second: bits::field(plan, 16, 12),
-        }
-    }
-}
+use reader::Reader;
 
 impl PlanHeader {
     pub const EDITION: u64 = 1;
@@ -27,10 +16,15 @@ impl PlanHeader {
     pub fn read(plan: &[u8]) -> Self
         ensures { λ r. ⌜ r ≡ planHeaderOf (now (plan .entry)) ⌝ }
     {
+        let mut reader = Reader::new(plan, 0);
+        let edition = reader.next(4);
+        let first = reader.next(12);
+        let second = reader.next(12);
+        let zeros = reader.next(4);
         PlanHeader {
-            edition: bits::field(plan, 0, 4),
-            denominators: Denominators::read(plan),
-            zeros: bits::field(plan, 28, 4),
+            edition,
+            denominators: Denominators { first, second },
+            zeros,
         }
     }
 }

@@ -1,9 +1,8 @@
 -- Calls of the reader's functions, as steps of a caller's walk by hand.
 --     starts   a reader is made of a slice, which the caller keeps
 --     takes    a local reader is lent for a call of `next`: afterwards it stands past the field, and the field's value is known
---     stands   where a local reader stands
 -- Each takes the reader's parts from the head of the context and leaves them there: [the reader's cell; what it owns; the token of 'a].
-use mathlib.Core.Path.{_≡_, refl, ap, subst, _∙_}
+use mathlib.Core.Path.{_≡_, refl, ap, subst}
 use Prim.Native.Nat.{ℕ, _+_, _≤_, _<_, _^_}
 use native.Mathlib.Omega.{arith}
 use mathlib.Core.List.{List, [], _∷_}
@@ -21,13 +20,13 @@ use prog.Wp.{Heap, Calls, Loops, Env}
 use ghost.Atoms.{Atoms, sem}
 use contract.BorrowLft.{meet-⊑-right}
 use contract.Monad.{Fun, fact}
-use types.Kit.{Given, Item, Post, Seq, Step, runs, lands, ‵, raw, some, later, _⊛_, ⋆, _$_, _∵_, !, qed, by, move, drop, use1, use2, use3, rewrite, split, join, pick, fsplit, fjoin, fpick, fpack, frame, await, regoal, done}
+use types.Kit.{Given, Item, Post, Seq, Step, runs, lands, ‵, raw, some, later, _⊛_, ⋆, _$_, _∵_, !, qed, move, drop, use1, use2, use3, rewrite, split, join, pick, fsplit, fjoin, fpick, fpack, frame, await, regoal, done}
 use types.Run.{Opds}
 use types.SemTy.{Body}
 use types.Tokens.{lft-new}
 use sound.WpLaws.{FmC}
 use borrow.Within.Token.{Rest, within-token, within-end}
-use denote.RattleType.{RattleType, owns}
+use denote.RattleType.{RattleType}
 use denote.Laws.{Is, shows}
 use denote.Lend.{lends-ref, ref-back}
 use denote.Memory.{mem, partAt, partOf, cellAt}
@@ -51,8 +50,6 @@ use Rattle.reader.proofs.Reader.new as new
 use Rattle.reader.proofs.Reader.new.Symbol.{name as #new}
 use Rattle.reader.proofs.Reader.next as next
 use Rattle.reader.proofs.Reader.next.Symbol.{name as #next}
-use Rattle.reader.proofs.Reader.position as position
-use Rattle.reader.proofs.Reader.position.Symbol.{name as #position}
 
 -- a reader's type at 'a, as a local of a body has it
 abbrev pub at-lft : Lft → NamedLft
@@ -79,9 +76,6 @@ module _ {M : Type 1} (𝓤 : URA M) (H : Heap 𝓤) (A : Atoms 𝓤) (mem-at : 
 
   abbrev pub Next : Contract 𝓤
   Next = tripleOf 𝓤 H A next.signature (next.spec 𝓤 H A mem-at run)
-
-  abbrev pub Position : Contract 𝓤
-  Position = tripleOf 𝓤 H A position.signature (position.spec 𝓤 H A mem-at run)
 
 module _ {M : Type 1} (𝓤 : URA M) (H : Heap 𝓤) (A : Atoms 𝓤) (W : Given 𝓤 H A) where
   -- a local reader in memory
@@ -167,21 +161,3 @@ module _ {M : Type 1} {𝓤 : URA M} {H : Heap 𝓤} {A : Atoms 𝓤} {K : Type 
       goes-new : ent 𝓤 (⋆ 𝓤 H A ((‵ (flft κ q) ⊛ ‵ ftrue) ∷ ‵ (Slice κ s) ∷ [])) (New 𝓤 H A mem-at run .pre to-new)
       goes-new =
           qed W ((‵ (flft κ q) ⊛ ‵ ftrue) ∷ ‵ (Slice κ s) ∷ []) ∵ nothing ! $ owned ! usize (Is usize) (uint-makes 𝓤 H A W w64) n _ (refl, fits) $ fjoin ! $ move ! (2 ∷ 0 ∷ []) $ fjoin ! $ move ! (1 ∷ 0 ∷ []) $ join ! $ frame ! $ done !
-
-  pub stands : K → FmC 𝓤 H (W .laws) C → (mem-at : Memory → SProp 𝓤) (run : Routine → Fun 𝓤) → Triple 𝓤 (C #position) (Position 𝓤 H A mem-at run) → {κ : Lft} {q : Share} (r : Reader)
-      → ((i j : Item 𝓤) → Opds K W (i ∷ j ∷ Γ) E xs (T′.lowered r ∷ []))
-      → (r .at < 2 ^ 64 → Seq K W (‵ (Own κ r) ∷ (‵ (flft κ q) ⊛ ‵ ftrue) ∷ Γ) (lands C Λ E d (vint w64 (r .at)) rest p))
-      → Seq K W (‵ (Own κ r) ∷ (‵ (flft κ q) ⊛ ‵ ftrue) ∷ Γ) (runs C Λ E (seq (call #position xs d) rest) p)
-  stands t fm mem-at run known {κ} {q} r opds k =
-      use1 W (‵ (Own κ r) ⊛ ‵ (Own κ r)) (LL.copy (T.the-type (at-lft κ)) (T′.the-copy (at-lft κ)) 𝓤 H A W .twice r (T′.lowered r ∷ [])) $ split t $ move t (2 ∷ 0 ∷ []) $ use2 W (raw (Position 𝓤 H A mem-at run .pre to-position)) goes-position $
-      calls-at t fm (Position 𝓤 H A mem-at run) known to-position (opds _ _) (λ u.
-      use1 W (later (some (λ (v : ℕ). ((‵ (flft κ q) ⊛ ‵ ftrue) ⊛ ‵ (usize .own v (u ∷ []))) ⊛ raw (ensured 𝓤 H A position.ended (position.clauses 𝓤 H A mem-at run) (κ, tt) (r, tt) tt v)))) (id⊢ 𝓤 _) $ await t tt $ pick t (λ v.
-      split t $ move t (1 ∷ []) $ use1 W (raw (fact 𝓤 (v ≡ r .at))) (exE 𝓤 _ (λ ws. snd∗ 𝓤 (sem 𝓤 H A (lasts position.ended (κ, tt) (r, tt) ws)) (fact 𝓤 (v ≡ r .at)))) $ heard t (v ≡ r .at) (λ e.
-      split t $ move t (1 ∷ []) $ facts t usize (Is usize) (shows 𝓤 H A usize) v (u ∷ []) (λ is. move t (1 ∷ 0 ∷ []) $
-      lands-as t (ap only (is .0) ∙ ap (vint w64) e) $ k (subst (λ (w : ℕ). w < 2 ^ 64) e (is .1))))))
-    where
-      to-position : Position 𝓤 H A mem-at run .Ghost
-      to-position = (((κ, tt), (q, tt), tt, (r, tt), (T′.lowered r ∷ [], tt)), tt)
-
-      goes-position : ent 𝓤 (⋆ 𝓤 H A ((‵ (flft κ q) ⊛ ‵ ftrue) ∷ ‵ (Own κ r) ∷ [])) (Position 𝓤 H A mem-at run .pre to-position)
-      goes-position = qed W ((‵ (flft κ q) ⊛ ‵ ftrue) ∷ ‵ (Own κ r) ∷ []) ∵ nothing ! $ move ! (2 ∷ 0 ∷ []) $ fjoin ! $ move ! (1 ∷ 0 ∷ []) $ join ! $ frame ! $ done !

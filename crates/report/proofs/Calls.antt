@@ -1,8 +1,8 @@
 -- What the calls give: their refusals, and the report as the files have it.
 use Prim.Native.Nat.{ℕ, zero, suc, _≤_, _<_, _^_}
-use mathlib.Core.Path.{_≡_, refl, sym, ap, _∙_}
+use mathlib.Core.Path.{_≡_, refl, sym, _∙_}
 use mathlib.Core.Bool.{Bool, true, false, cond, _&&_}
-use mathlib.Core.List.{List, flatMap}
+use mathlib.Core.List.{List}
 use native.Mathlib.Omega.{arith}
 use native.Mathlib.Decide.{decLt}
 use borrow.Author.Tests.{le-leb, lt-leb, ne-eqb}
@@ -10,33 +10,27 @@ use lib.Dec.{eqb, leb}
 use lib.ListN.{length}
 use Rattle.algebra.proofs.Arrays.{placed-first}
 use Rattle.model.specs.Game.{Game, gameOf, one, two}
-use Rattle.model.specs.Sequences.{sequenceCount}
 use Rattle.model.specs.Plan.{PlanPair, planPairOf}
 use Rattle.model.specs.Refusals.{firstFailing, along, numbers}
 use Rattle.model.specs.GameChecks.{gameChecks, headerChecks, treeChecks}
 use Rattle.model.specs.PlanChecks.{Files, planChecks, pairChecks, pairRefusal}
-use Rattle.model.specs.Writing.{entry}
-use Rattle.model.specs.Report.{moveLine, refusalLine, reportOf, printed}
-use Rattle.model.specs.Calls.{Lent, withRoom, reportChecks, refusalLineChecks, afterCall}
+use Rattle.model.specs.Report.{refusalLine, reportOf, printed}
+use Rattle.model.specs.Calls.{withRoom, reportChecks, refusalLineChecks, afterCall}
 use Rattle.model.proofs.Budget.{budget, game-limits, plan-limits}
 use Rattle.model.proofs.Demand1.{game-rules, plan-rules, pair-parts}
 use Rattle.model.proofs.Demand3.{demand3}
 use Rattle.model.proofs.Refusals.{first-below}
-use Rattle.model.proofs.SamePlans.{best-response-agrees}
-use Rattle.game.specs.Answers.{Holds, over}
 use Rattle.game.proofs.Headers.{header-weight, header-sets}
 use Rattle.game.proofs.NodeTests.{few-sets}
 use Rattle.plan.specs.declared.PairHeader.{PairHeader}
-use Rattle.plan.specs.Weights.{weightByNumber, planByNumber, pairByNumber}
 use Rattle.plan.proofs.Pairs.{PairOpened}
-use Rattle.plan.proofs.Stored.{stored-weight, stored-value, stored-best}
 use Rattle.form.specs.declared.Values.{Values}
-use Rattle.form.specs.BestMoves.{ownBestMove}
-use Rattle.form.specs.Values.{valuesOf}
 use Rattle.calls.proofs.Denominators.{first-is, second-is}
-use Rattle.calls.proofs.Refusals.{some-pair, part-fails, last-fails, none-fails}
+use Rattle.calls.proofs.Refusals.{pair-first, pair-short, pair-room}
+use Rattle.calls.proofs.Rooms.{refused-kept}
 use Rattle.verdict.specs.declared.Verdict.{Verdict}
 use Rattle.verdict.specs.Judgement.{judged}
+use Rattle.verdict.proofs.Evaluated.{EvaluationOpened}
 use Rattle.verdict.proofs.Judged.{judged-as}
 use Rattle.writers.specs.Answers.{writeAnswer}
 use Rattle.writers.specs.declared.WriteAnswer.{WriteAnswer}
@@ -70,30 +64,28 @@ line-refusal number room = go (leb (length (refusalLine number)) room)
 
 -- Two files.
 module _ (game plan : List ℕ) where
+  abbrev size : Files → ℕ
+  size f = length (reportOf (f .game) (f .plan))
+
   -- a pair that is refused
   pair-refused : (room : ℕ) {r : ℕ} → r ≡ pairRefusal game plan → ¬ (r ≡ 0) → reportRefusal game plan room ≡ r
-  unfolding pairRefusal reportChecks withRoom
-  pair-refused room e n = part-fails pairChecks some-pair (λ (c : Lent Files). c .input) 18 _ _ e n
+  unfolding reportChecks
+  pair-refused room e n = pair-first size game plan room e n
 
   -- the answer and the buffer afterwards
   abbrev pub Result : (buffer : List ℕ) → (refusal : ℕ) → WriteAnswer → (after : List ℕ) → Type 0
   Result buffer k r after = (r ≡ writeAnswer k (length (reportOf game plan))) × (after ≡ afterCall k (reportOf game plan) buffer)
 
   pub refused-given : (buffer : List ℕ) {r : ℕ} → r ≡ pairRefusal game plan → ¬ (r ≡ 0) → Result buffer (reportRefusal game plan (length buffer)) (Refused r) buffer
-  unfolding afterCall
-  refused-given buffer {r} e n = rw (pair-refused (length buffer) e n) (go r n)
-    where
-      go : (r : ℕ) → ¬ (r ≡ 0) → Result buffer r (Refused r) buffer
-      go zero n = absurd (n refl)
-      go (suc r) n = (refl, refl)
+  refused-given buffer e n = refused-kept (λ k. writeAnswer k (length (reportOf game plan))) Refused (λ k. refl) (reportOf game plan) buffer (pair-refused (length buffer) e n) n
 
   -- one that is not tests its room
   pub pair-told : (room : ℕ) → pairRefusal game plan ≡ 0 → reportRefusal game plan room ≡ roomRefusal (length (reportOf game plan)) room
-  unfolding pairRefusal reportChecks withRoom roomRefusal
+  unfolding reportChecks roomRefusal
   pair-told room e =
       elim (decLt room (length (reportOf game plan))) [
-        | yes l ↦ let f = lt-leb (length (reportOf game plan)) room l in rw f (last-fails pairChecks some-pair (λ (c : Lent Files). c .input) 18 _ _ e (rw f))
-        | no l ↦ let f = le-leb (length (reportOf game plan)) room (omega arith) in rw f (none-fails pairChecks some-pair (λ (c : Lent Files). c .input) 18 _ _ e (rw f))
+        | yes l ↦ rw (lt-leb (length (reportOf game plan)) room l) (pair-short size game plan room e l)
+        | no l ↦ rw (le-leb (length (reportOf game plan)) room (omega arith)) (pair-room size game plan room e (omega arith))
       ]
 
   -- the longest report
@@ -155,36 +147,18 @@ module _ (game plan : List ℕ) (h : PairHeader) (o : PairOpened game plan h) wh
         second-few = plan-limits g plan two .denominator;
       })
 
-  -- it is ready to be told, with arrays for the moves of all sets
-  pub pair-ready : (moves1 moves2 : List ℕ) → 4095 ≤ length moves1 → 4095 ≤ length moves2 → PairReady game h moves1 moves2
-  pair-ready moves1 moves2 a b =
+  -- it is ready to be told, with a move for every set
+  pub pair-ready : {moves1 moves2 : List ℕ} → gameOf game .sets ≤ length moves1 → gameOf game .sets ≤ length moves2 → PairReady game h moves1 moves2
+  pair-ready l m =
       let same = header-sets (h .header) game (o .header) in
-      record {
-        sets = same;
-        long1 = omega (arith, same, few-sets game);
-        long2 = omega (arith, same, few-sets game);
-        denominators = denominators-fit;
-      }
+      record { sets = same; long1 = omega (arith, same); long2 = omega (arith, same); denominators = denominators-fit }
 
-  module _ {x y : List ℕ} (held1 : Holds (weightByNumber g plan one) (sequenceCount g one) x) (held2 : Holds (weightByNumber g plan two) (sequenceCount g two) y) {v : Values} (evaluated : v ≡ valuesOf g (pairByNumber g (entry x) (entry y))) where
-    -- the values of the file's pair
-    values-read : v ≡ valuesOf g q
-    unfolding valuesOf
-    values-read =
-        let rules = game-rules game (o .game-none) in
-        evaluated
-        ∙ rw (
-          stored-value g rules plan held1 held2 one,
-          stored-value g rules plan held1 held2 two,
-          stored-best g rules plan held1 held2 one,
-          stored-best g rules plan held1 held2 two,
-        )
-
-    -- the report is the file's
-    pub report-told : {d : Verdict} → d ≡ judged (v .value1) (v .value2) (v .best1) (v .best2) (h .denominators .first) (h .denominators .second) → {moves1 moves2 : List ℕ} (before1 before2 : List ℕ) → moves1 ≡ over (ownBestMove g one (planByNumber g two (entry y))) (g .sets) before1 → moves2 ≡ over (ownBestMove g two (planByNumber g one (entry x))) (g .sets) before2 → pairReport game h v d moves1 moves2 ≡ reportOf game plan
-    unfolding reportOf
-    report-told j {moves1} {moves2} before1 before2 e f =
-        let rules = game-rules game (o .game-none) in
-        let first = strategy-lines g one (planByNumber g two (entry y)) before1 moves1 e ∙ ap (flatMap moveLine) (best-response-agrees g one _ _ (stored-weight g rules plan two held2)) in
-        let second = strategy-lines g two (planByNumber g one (entry x)) before2 moves2 f ∙ ap (flatMap moveLine) (best-response-agrees g two _ _ (stored-weight g rules plan one held1)) in
-        rw (j ∙ judged-as game plan h o held1 held2 evaluated, values-read, header-weight (h .header) game (o .header), first-is game plan h o, second-is game plan h o) (report-is g q moves1 moves2 first second)
+-- The report on what was evaluated and judged is the files'.
+pub report-told : (game plan : List ℕ) (h : PairHeader) {v : Values} {moves1 moves2 : List ℕ} → EvaluationOpened game plan h v moves1 moves2 → {d : Verdict} → d ≡ judged (v .value1) (v .value2) (v .best1) (v .best2) (h .denominators .first) (h .denominators .second) → pairReport game h v d moves1 moves2 ≡ reportOf game plan
+unfolding reportOf
+report-told game plan h {v} {moves1} {moves2} e j =
+    let g = gameOf game in
+    let q = planPairOf g plan in
+    let o = e .opened in
+    rw (judged-as game plan h o (e .values) j, e .values, header-weight (h .header) game (o .header), first-is game plan h o, second-is game plan h o)
+    (report-is g q moves1 moves2 (strategy-lines g one (q two) moves1 (e .best1)) (strategy-lines g two (q one) moves2 (e .best2)))

@@ -2,7 +2,7 @@
 use Prim.Native.Nat.{ℕ, _+_, _*_, _≤_, _<_}
 use mathlib.Core.Path.{ap}
 use mathlib.Core.Bool.{Bool, true, false, cond}
-use mathlib.Core.List.{[], _++_, flatMap}
+use mathlib.Core.List.{_++_, flatMap}
 use native.Mathlib.Omega.{arith}
 use lib.Dec.{T}
 use lib.ListN.{length, length-append}
@@ -10,12 +10,12 @@ use lib.IntN.{pos}
 use lib.Signed.{ltZ}
 use Rattle.algebra.proofs.Searches.{firstTo-bound}
 use Rattle.algebra.proofs.Tests.{dec}
-use Rattle.model.specs.Game.{Game, Player, one, two, other, owns}
+use Rattle.model.specs.Game.{Game, Player, one, two, other, owns, playerNumber}
 use Rattle.model.specs.Plan.{PlanPair, RealizationPlan}
 use Rattle.model.specs.Earnings.{valueBase, valueCount, value, againstBase, pureEarnings}
 use Rattle.model.specs.BestResponse.{worth, bestCount, bestValue, bestMove, bestResponse}
 use Rattle.model.specs.Verdict.{verdict, gain, deviates, equilibrium}
-use Rattle.model.specs.Report.{ascii, line, playerNumber, moveLine, valueLine, bestLine, gainAmount, verdictLines, report}
+use Rattle.model.specs.Report.{ascii, line, moveLine, valueLine, bestLine, gainAmount, verdictLines, report}
 use Rattle.model.specs.Demand1.{GameRules}
 use Rattle.model.specs.Demand3.{BasesPositive}
 use Rattle.model.proofs.Budget.{Budget}
@@ -48,7 +48,7 @@ module _ (g : Game) (few : g .sets ≤ 4095) (R : GameRules g) where
 
     best-most : (p : Player) → length (bestLine g q p) ≤ 32
     unfolding bestLine bestValue amountLine bestCount worth pureEarnings ascii
-    best-most p = amount-line-length (ascii "best ") (playerNumber p) (ascii " ") (bestCount g p (q (other p))) (againstBase g p (q (other p))) (number-few p) (positive .pures p (λ h. 0)) (B .worths p (g .nodes) [])
+    best-most p = amount-line-length (ascii "best ") (playerNumber p) (ascii " ") (bestCount g p (q (other p))) (againstBase g (q (other p))) (number-few p) (positive .pures p (λ h. 0)) (B .best p)
 
     deviation-most : (p : Player) → length (verdictLines g q (deviates g q p)) ≤ 49 + 17 * 4095
     unfolding verdictLines deviates gainAmount amountLine ascii

@@ -8,17 +8,16 @@ use native.Mathlib.Decide.{ℕ-discrete}
 use native.Mathlib.Numerals.{add-one}
 use lib.Dec.{T}
 use lib.ListN.{length, length-append}
+use Rattle.algebra.specs.Arrays.{Holds}
 use Rattle.algebra.specs.Bounded.{joinTo}
 use Rattle.algebra.proofs.Lists.{joinTo-suc, joinTo-cong}
 use Rattle.algebra.proofs.Tests.{dec, cond-yes, cond-no}
-use Rattle.model.specs.Game.{Game, Player, owns, playerOf}
+use Rattle.model.specs.Game.{playerNumber, Game, Player, owns, playerOf, playerNumber}
 use Rattle.model.specs.Sequences.{Move}
 use Rattle.model.specs.Plan.{RealizationPlan}
 use Rattle.model.specs.BestResponse.{bestMove, bestAt, bestResponse}
 use Rattle.model.specs.Writing.{entry}
-use Rattle.model.specs.Report.{playerNumber, moveLine}
-use Rattle.game.specs.Answers.{over}
-use Rattle.game.proofs.Loops.{over-at}
+use Rattle.model.specs.Report.{moveLine}
 use Rattle.form.specs.BestMoves.{ownBestMove}
 use Rattle.text.specs.Text.{Room, Put}
 use Rattle.report.specs.Whole.{setLine, strategyLines}
@@ -105,12 +104,12 @@ module _ (g : Game) (p : Player) where
     response-lines = flatMap-joinTo moveLine (g .sets) (λ h. cond (owns g p h) (bestAt g p y h) [])
 
     -- his sets' lines are those of the best response
-    pub strategy-lines : (before moves : List ℕ) → moves ≡ over (ownBestMove g p y) (g .sets) before → strategyLines g p moves ≡ flatMap moveLine (bestResponse g p y)
+    pub strategy-lines : (moves : List ℕ) → Holds (ownBestMove g p y) (g .sets) moves → strategyLines g p moves ≡ flatMap moveLine (bestResponse g p y)
     unfolding strategyLines ownBestMove
-    strategy-lines before moves e = joinTo-cong (g .sets) _ _ (λ h l. at-set h l (dec (owns g p h))) ∙ sym response-lines
+    strategy-lines moves held = joinTo-cong (g .sets) _ _ (λ h l. at-set h l (dec (owns g p h))) ∙ sym response-lines
       where
         at-set : (h : ℕ) → h < g .sets → Dec (T (owns g p h)) → setLine g p moves h ≡ responseLine h
         at-set h l (yes o) =
-            let best : entry moves h ≡ bestMove g p y h = ap (λ (k : List ℕ). entry k h) e ∙ over-at 0 (ownBestMove g p y) (g .sets) before h l ∙ cond-yes (owns g p h) (bestMove g p y h) 0 o in
+            let best : entry moves h ≡ bestMove g p y h = held .at h l ∙ cond-yes (owns g p h) (bestMove g p y h) 0 o in
             line-own moves h o ∙ ap (λ (m : ℕ). moveLine (h, m)) best ∙ sym (response-own h o)
         at-set h l (no o) = line-other moves h o ∙ sym (response-other h o)

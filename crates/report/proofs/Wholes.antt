@@ -1,5 +1,5 @@
 -- The verdict's text by its cases, and what its amounts are counted over.
-use Prim.Native.Nat.{ℕ}
+use Prim.Native.Nat.{ℕ, _*_}
 use mathlib.Core.Path.{_≡_}
 use mathlib.Core.List.{List}
 use native.Mathlib.Omega.{arith}
@@ -25,6 +25,11 @@ module _ (g : Game) (base : ℕ) {v : Verdict} (moves1 moves2 : List ℕ) where
   pub text-second : {player : ℕ} {gain : ℤ} → v ≡ Deviation player gain → ¬ (player ≡ 1) → verdictText g base v moves1 moves2 ≡ deviationText g two (fraction gain base) moves2
   unfolding verdictText
   text-second {player} e n = rw (e, ne-eqb player 1 n)
+
+-- what the amounts are counted over, where D0 × D1 × D2 is n
+pub bases-are : (root first second : ℕ) {n : ℕ} → n ≡ root * (first * second) → record { values = n; best1 = root * second; best2 = root * first } ≡ basesOf root first second
+unfolding basesOf
+bases-are root first second e = rw e
 
 -- a product of D0 with a denominator, and with both
 pub bases-fit : (root first second : ℕ) → DenominatorsFit root first second → BasesFit (basesOf root first second)

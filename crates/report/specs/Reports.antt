@@ -10,11 +10,11 @@ use Rattle.model.specs.Calls.{reportChecks, refusalLineChecks, afterCall}
 use Rattle.writers.specs.Answers.{writeAnswer}
 use Rattle.writers.specs.declared.WriteAnswer.{WriteAnswer}
 
--- the refusal of the report, with room for so many bytes
+-- the refusal of the call for the report, with room for so many bytes
 abbrev pub reportRefusal : (game plan : List ℕ) → (room : ℕ) → ℕ
 reportRefusal game plan room = firstFailing reportChecks (record { input = record { game = game; plan = plan }; rooms = room ∷ [] })
 
--- that of a refusal's line
+-- the refusal of the call for a refusal's line
 abbrev pub refusalLineRefusal : (number room : ℕ) → ℕ
 refusalLineRefusal number room = firstFailing refusalLineChecks (record { input = number; rooms = room ∷ [] })
 
@@ -27,8 +27,3 @@ abbrev pub Given : (text buffer : List ℕ) → WriteAnswer → (after : List �
 Given text buffer r after =
     (r ≡ writeAnswer (roomRefusal (length text) (length buffer)) (length text))
     × (after ≡ afterCall (roomRefusal (length text) (length buffer)) text buffer)
-
--- To unfold this is to unfold all of this file: for closed computation.
-unfoldable pub opened : Unit {0}
-unfolding roomRefusal
-opened = tt

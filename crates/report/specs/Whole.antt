@@ -6,10 +6,11 @@ use mathlib.Core.List.{List, [], _++_}
 use lib.Dec.{eqb}
 use lib.ListN.{length}
 use Rattle.algebra.specs.Bounded.{joinTo}
-use Rattle.model.specs.Game.{Game, gameOf, Player, one, two, owns}
-use Rattle.model.specs.Earnings.{Fraction}
+use Rattle.model.specs.Game.{Game, gameOf, Player, one, two, owns, playerNumber}
+use Rattle.model.specs.Earnings.{Fraction, baseOf}
 use Rattle.model.specs.Writing.{entry}
-use Rattle.model.specs.Report.{ascii, line, playerNumber, moveLine}
+use Rattle.model.specs.Report.{ascii, line, moveLine}
+use Rattle.model.specs.Budget.{weightLimit}
 use Rattle.plan.specs.declared.PairHeader.{PairHeader}
 use Rattle.form.specs.declared.Values.{Values}
 use Rattle.verdict.specs.declared.Verdict.{Verdict}
@@ -17,19 +18,20 @@ use Rattle.verdict.specs.declared.Verdict.the-variants.{Equilibrium, Deviation}
 use Rattle.report.specs.declared.Bases.{Bases}
 use Rattle.text.specs.Lines.{BaseFits, fraction, amountLine}
 
--- D0, D1 and D2 of an accepted pair, for denominators of 16 bits
+-- D0, D1 and D2 are above 0 and within their limits
 pub record DenominatorsFit (root first second : ℕ) : Type 0 where
   pub root-some : 0 < root
   pub first-some : 0 < first
   pub second-some : 0 < second
   pub root-few : root ≤ 4095
-  pub first-few : first ≤ 65535
-  pub second-few : second ≤ 65535
+  pub first-few : first ≤ weightLimit
+  pub second-few : second ≤ weightLimit
 
 -- values over D0 × D1 × D2, best values over D0 × the other's D
 unfoldable pub basesOf : (root first second : ℕ) → Bases
-basesOf root first second = record { values = root * (first * second); best1 = root * second; best2 = root * first }
+basesOf root first second = record { values = baseOf root first second; best1 = root * second; best2 = root * first }
 
+-- bases that amounts can be counted over
 pub record BasesFit (b : Bases) : Type 0 where
   pub values : BaseFits (b .values)
   pub best1 : BaseFits (b .best1)
@@ -65,26 +67,22 @@ verdictText g base (Deviation player gain) moves1 moves2 =
     let second = deviationText g two (fraction gain base) moves2 in
     cond (eqb player 1) first second
 
--- all of it
+-- the whole report
 unfoldable pub reportText : Game → Bases → Values → Verdict → (moves1 moves2 : List ℕ) → List ℕ
 reportText g b v verdict moves1 moves2 = valuesText b v ++ verdictText g (b .values) verdict moves1 moves2
 
--- No report has more bytes: two lines of a value and two of a best value, the gain's, and one for each of 4,095 sets.
+-- No report has more bytes. An amount has at most 24: a sign, 19 digits, a point and three digits. With it the line of
+-- a value has 33, that of a best value 32 and that of a gain 49; a set's line, with four digits and two, has 17.
 abbrev pub most : ℕ
 most = 2 * 33 + 2 * 32 + 49 + 17 * 4095
 
--- of a pair that was read from its files
+-- the report of a pair that was read from its files
 abbrev pub pairReport : (game : List ℕ) → PairHeader → Values → Verdict → (moves1 moves2 : List ℕ) → List ℕ
 pairReport game pair v verdict moves1 moves2 = reportText (gameOf game) (basesOf (pair .header .«root_weight») (pair .denominators .first) (pair .denominators .second)) v verdict moves1 moves2
 
--- what is asked of it, with a move for every set of the game
+-- what `pairReport` needs: a move for every set of the game, and denominators that fit
 pub record PairReady (game : List ℕ) (pair : PairHeader) (moves1 moves2 : List ℕ) : Type 0 where
   pub sets : pair .header .sets ≡ gameOf game .sets
   pub long1 : pair .header .sets ≤ length moves1
   pub long2 : pair .header .sets ≤ length moves2
   pub denominators : DenominatorsFit (pair .header .«root_weight») (pair .denominators .first) (pair .denominators .second)
-
--- To unfold this is to unfold all of this file: for closed computation.
-unfoldable pub opened : Unit {0}
-unfolding basesOf bothLines valuesText setLine strategyLines deviationText verdictText reportText
-opened = tt

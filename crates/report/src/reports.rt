@@ -10,11 +10,12 @@ ghost use Rattle.report.specs.Reports.{reportRefusal, refusalLineRefusal
 use super::MOST;
 use super::whole::write;
 use form::Values;
-use plan::PairAnswer;
 use plan::PairHeader;
 use text::lines::put_refusal;
 use text::put_text;
+use verdict::PairEvaluated;
 use verdict::Verdict;
+use verdict::pairs;
 use verdict::verdicts::judge;
 use writers::WriteAnswer;
 
@@ -47,32 +48,21 @@ fn tell(
     give(&text[..size], out)
 }
 
-// The desk program's text for two files.
+// The desk program's text for two files that fit, at the start of the buffer, and how many bytes it has; a refusal is 1 to 16, or 18.
 pub fn report(game: &[u8], plan: &[u8], out: &mut [u8]) -> WriteAnswer
     ensures { λ r. ⌜ (r ≡ writeAnswer (reportRefusal (now (game .entry)) (now (plan .entry)) (length (now (out .entry)))) (length (reportOf (now (game .entry)) (now (plan .entry))))) × (now (out .exit) ≡ afterCall (reportRefusal (now (game .entry)) (now (plan .entry)) (length (now (out .entry)))) (reportOf (now (game .entry)) (now (plan .entry))) (now (out .entry))) ⌝ }
 {
-    let mut x = [0u64; 4095];
-    let mut y = [0u64; 4095];
-    let answer = plan::pair::read(game, plan, &mut x, &mut y);
-    let PairAnswer::Fits(pair) = answer else {
-        return WriteAnswer::Refused(plan::pair::refusal(answer));
-    };
     let mut moves1 = [0usize; 4095];
     let mut moves2 = [0usize; 4095];
-    let values = form::evaluate::evaluate(
-        game,
-        pair.header,
-        pair.counts,
-        &x,
-        &y,
-        &mut moves1,
-        &mut moves2,
-    );
+    let evaluated = pairs::evaluate(game, plan, &mut moves1, &mut moves2);
+    let PairEvaluated::Evaluated { pair, values } = evaluated else {
+        return WriteAnswer::Refused(pairs::refusal(evaluated));
+    };
     let judged = judge(values, pair.denominators);
     tell(game, pair, values, judged, &moves1, &moves2, out)
 }
 
-// The line that tells a refusal.
+// The line that tells a refusal, likewise; its own refusal is 18.
 pub fn refusal_line(number: u64, out: &mut [u8]) -> WriteAnswer
     ensures { λ r. ⌜ (r ≡ writeAnswer (refusalLineRefusal number (length (now (out .entry)))) (length (refusalLine number))) × (now (out .exit) ≡ afterCall (refusalLineRefusal number (length (now (out .entry)))) (refusalLine number) (now (out .entry))) ⌝ }
 {

@@ -6,9 +6,9 @@ use native.Mathlib.Omega.{arith}
 use native.Mathlib.Decide.{ℕ-discrete}
 use lib.IntN.{ℤ, pos}
 use lib.ListN.{length}
+use Rattle.algebra.specs.Arrays.{over}
+use Rattle.algebra.proofs.Fillings.{over-is}
 use Rattle.model.specs.Writing.{entry}
-use Rattle.game.specs.Answers.{over}
-use Rattle.game.proofs.Loops.{over-is}
 use Rattle.responses.specs.PlayerTables.{PlayerTables, tableWorth, OwnSet, Ready}
 use Rattle.responses.specs.Stored.{Right, RightFrom, right-from, SequenceStored}
 

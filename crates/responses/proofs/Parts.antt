@@ -6,8 +6,8 @@ use native.Mathlib.Omega.{arith}
 use lib.IntN.{ℤ}
 use lib.ListN.{length, take}
 use lib.Seq.{length-take-le, getD-take}
+use Rattle.algebra.specs.Arrays.{over}
 use Rattle.model.specs.Writing.{entry}
-use Rattle.game.specs.Answers.{over}
 use Rattle.slices.specs.Sums.{sumAt}
 use Rattle.responses.specs.PlayerTables.{tablesFor, tableWorth, OwnSet, Ready}
 use Rattle.responses.specs.BestMoves.{MovesStored}

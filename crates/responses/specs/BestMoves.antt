@@ -27,8 +27,3 @@ bestOf worth lead start count sequences h =
 pub record MovesStored (worth : List ℤ) (lead start count : List ℕ) (sequences sets : ℕ) : Type 0 where
   pub some-move : (h : ℕ) → h < sets → entry lead h < sequences → 0 < entry count h
   pub stored : (h : ℕ) → h < sets → entry lead h < sequences → entry start h + entry count h ≤ length worth
-
--- to unfold this is to unfold the definitions of this file: for closed computation
-unfoldable pub opened : Unit {0}
-unfolding firstGreatest bestStored bestOf
-opened = tt

@@ -40,7 +40,7 @@ module _ (t : PlayerTables) where
   unfoldable pub tablePartial : (ℕ → ℤ) → (s k : ℕ) → ℤ
   tablePartial setWorth s k = entryZ (t .sums) s +ℤ sumWhere k (tableLeads s) setWorth
 
-  -- a sequence's worth, up to `steps` moves on
+  -- a sequence's worth, counting only leaves that are fewer than `steps` own moves on
   unfoldable pub tableWorth : (steps : ℕ) → ℕ → ℤ
   tableWorth zero s = pos 0
   tableWorth (suc steps) s = tablePartial (tableGreatest (tableWorth steps)) s (length (t .lead))
@@ -88,8 +88,3 @@ pub record Ready (t : PlayerTables) (nodes : ℕ) : Type 0 where
 -- each set that sequence s leads to has its first node at `floor` or later
 pub record From (t : PlayerTables) (s floor : ℕ) : Type 0 where
   pub from : (h : ℕ) → h < length (t .lead) → entry (t .lead) h ≡ s → floor ≤ entry (t .node) h
-
--- to unfold this is to unfold the definitions of this file: for closed computation
-unfoldable pub opened : Unit {0}
-unfolding tableLeads tableGreatest tablePartial tableWorth
-opened = tt

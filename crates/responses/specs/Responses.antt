@@ -3,7 +3,7 @@ use Prim.Native.Nat.{ℕ, _≤_}
 use mathlib.Core.List.{List}
 use lib.IntN.{ℤ}
 use lib.ListN.{length}
-use Rattle.game.specs.Answers.{over}
+use Rattle.algebra.specs.Arrays.{over}
 use Rattle.slices.specs.Sums.{sumAt, SumsReady}
 use Rattle.responses.specs.PlayerTables.{PlayerTables, tablesFor, Ready}
 

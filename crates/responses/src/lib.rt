@@ -1,7 +1,7 @@
 // One player's best response over number slices: worths of sequences and sets, the best value, the best moves.
 ghost use mathlib.Core.Path.{_≡_};
 ghost use Prim.Native.Nat.{suc};
-ghost use Rattle.game.specs.Answers.{over};
+ghost use Rattle.algebra.specs.Arrays.{over};
 ghost use Rattle.responses.specs.PlayerTables.{tableWorth};
 ghost use Rattle.responses.specs.BestMoves.{bestOf};
 ghost use Rattle.responses.specs.Responses.{tablesAgainst, ResponseReady};

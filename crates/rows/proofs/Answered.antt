@@ -1,7 +1,7 @@
 -- Which refusal the call gives, and the columns that its rows are made of.
 use Prim.Native.Nat.{ℕ, zero, suc, _≤_, _<_}
-use mathlib.Core.Path.{_≡_, refl, sym, ap, _∙_}
-use mathlib.Core.List.{List, []}
+use mathlib.Core.Path.{_≡_, refl, sym, _∙_}
+use mathlib.Core.List.{List}
 use native.Mathlib.Omega.{arith, by-contra}
 use borrow.Author.Tests.{le-leb, lt-leb}
 use lib.ListN.{length}
@@ -10,14 +10,14 @@ use Rattle.algebra.proofs.Arrays.{placed-first}
 use Rattle.model.specs.Game.{gameOf}
 use Rattle.model.specs.GameChecks.{gameRefusal}
 use Rattle.model.specs.Table.{payoffTable}
-use Rattle.model.specs.Calls.{afterCall, withRoom}
+use Rattle.model.specs.Calls.{afterCall, withRoom, rowsChecks}
 use Rattle.game.proofs.Outcomes.{Sent, refuses}
 use Rattle.payoff.specs.Table.{TableIn}
 use Rattle.table.specs.declared.TableAnswer.{TableAnswer}
 use Rattle.table.specs.declared.TableAnswer.the-variants.{Given, Refused}
-use Rattle.table.specs.Tables.{Columns, columns, columnsOf, tableAnswer}
+use Rattle.table.specs.Tables.{Columns, columns, tableAnswer}
 use Rattle.calls.proofs.Refusals.{game-first, game-last, game-none}
-use Rattle.rows.specs.Rows.{rowsChecks, rowsRefusal, columnsIn}
+use Rattle.rows.specs.Rows.{rowsRefusal, columnsIn}
 
 module _ (bytes : List ℕ) (room : ℕ) where
   abbrev count : ℕ

@@ -5,13 +5,12 @@ use mathlib.Core.List.{List, map}
 use native.Mathlib.Omega.{arith}
 use lib.IntN.{pos}
 use lib.ListN.{length, drop, getD, length-append, length-map, List·getD-append, List·getD-map}
+use Rattle.algebra.specs.Arrays.{over}
 use Rattle.algebra.proofs.Lists.{listTo-is}
+use Rattle.algebra.proofs.Fillings.{over-none}
 use Rattle.model.specs.Game.{gameOf}
-use Rattle.model.specs.GameChecks.{gameRefusal}
 use Rattle.model.specs.Table.{Row as TableRow, payoffTable}
 use Rattle.model.specs.Calls.{afterCall}
-use Rattle.game.specs.Answers.{over}
-use Rattle.game.proofs.Loops.{over-none}
 use Rattle.table.specs.declared.TableAnswer.{TableAnswer}
 use Rattle.table.specs.Tables.{Columns, columns, Copyable, tableAnswer}
 use Rattle.calls.proofs.Rooms.{over-after}

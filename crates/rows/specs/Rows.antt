@@ -1,13 +1,12 @@
 -- The call that gives the payoff table as rows: its refusal, and the lent rows afterwards.
 use Prim.Native.Nat.{ℕ}
 use mathlib.Core.List.{List, [], _∷_, map}
-use lib.ListN.{length}
 use Rattle.model.specs.Game.{gameOf}
-use Rattle.model.specs.Refusals.{Checks, firstFailing}
-use Rattle.model.specs.GameChecks.{gameChecks, gameRefusal}
+use Rattle.model.specs.Refusals.{firstFailing}
+use Rattle.model.specs.GameChecks.{gameRefusal}
 use Rattle.model.specs.Table.{Row as TableRow, payoffTable}
 use Rattle.model.specs.Writing.{entry, entryZ}
-use Rattle.model.specs.Calls.{Lent, afterCall, withRoom}
+use Rattle.model.specs.Calls.{afterCall, rowsChecks}
 use Rattle.table.specs.declared.TableAnswer.{TableAnswer}
 use Rattle.table.specs.declared.TableAnswer.the-variants.{Given, Refused}
 use Rattle.table.specs.Tables.{Columns, columns, columnsOf}
@@ -20,10 +19,6 @@ rowOf r = record { sequence1 = r .sequence1; sequence2 = r .sequence2; sum1 = r 
 -- the payoff table, row by row
 unfoldable pub tableRows : List ℕ → List Row
 tableRows bytes = map rowOf (payoffTable (gameOf bytes))
-
--- the game's checks, and 18 against the number of rows
-unfoldable pub rowsChecks : Checks (Lent (List ℕ))
-rowsChecks = withRoom gameChecks (λ b. length (payoffTable (gameOf b)) ∷ [])
 
 -- the refusal of the call, with room for so many rows
 unfoldable pub rowsRefusal : List ℕ → (room : ℕ) → ℕ

@@ -3,8 +3,8 @@
 ghost use mathlib.Core.Path.{_≡_};
 ghost use Prim.Native.Nat.{_+_, _≤_};
 ghost use lib.ListN.{length};
+ghost use Rattle.algebra.specs.Arrays.{over};
 ghost use Rattle.model.specs.Calls.{afterCall};
-ghost use Rattle.game.specs.Answers.{over};
 ghost use Rattle.table.specs.Tables.{columns, Copyable, tableAnswer};
 ghost use Rattle.rows.specs.Rows.{rowIn, rowsGiven, columnsIn, tableRows, rowsRefusal};
 use table::TableAnswer;

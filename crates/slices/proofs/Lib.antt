@@ -1,4 +1,3 @@
 pub mod Chaining
-pub mod Givens
 pub mod Products
 pub mod SumLoops

@@ -1,47 +1,21 @@
 -- Laws for the loops that add up leaves.
 use Prim.Native.Nat.{ℕ, _+_, _≤_, _<_}
-use mathlib.Core.Path.{_≡_, refl, sym, ap, _∙_, subst}
-use mathlib.Core.List.{List, _++_}
+use mathlib.Core.Path.{_≡_, refl, sym, ap, _∙_}
+use mathlib.Core.List.{List}
 use native.Mathlib.Omega.{arith}
 use native.Mathlib.Numerals.{add-one}
-use native.Mathlib.Decide.{ℕ-discrete}
-use lib.ListN.{length, getD, drop, set, length-set}
-use lib.Seq.{getD-set-same, getD-set-other}
+use lib.ListN.{length, set}
 use lib.Dec.{eqb, eqb→eq, eqb-refl}
 use lib.IntN.{ℤ, pos, _+ℤ_, +ℤ-idr}
 use mir.Syntax.{w64}
 use mir.Val.{SFits}
 use Rattle.algebra.specs.Bounded.{sumTo, sumWhere}
+use Rattle.algebra.specs.Arrays.{over}
 use Rattle.algebra.proofs.Tests.{cond-yes, cond-no}
-use Rattle.algebra.proofs.Lists.{listTo-cong}
 use Rattle.algebra.proofs.Sums.{onlyZ, sum-suc}
+use Rattle.algebra.proofs.Fillings.{length-over, over-at, over-cong, over-again, over-set}
 use Rattle.model.specs.Writing.{entry, entryZ}
-use Rattle.game.specs.Answers.{over}
-use Rattle.game.proofs.Loops.{length-over, over-at, over-past, over-is}
 use Rattle.slices.specs.Sums.{opponentTerm, sumAt, pairTerm, pairSumTo, SumsReady}
-
-module _ {A : Type 0} (d : A) (f h : ℕ → A) (n : ℕ) (l : List A) where
-  -- an array filled anew
-  over-again : n ≤ length l → over h n (over f n l) ≡ over h n l
-  over-again b =
-      sym (over-is d h n (over f n l) (over h n l) (omega (arith, length-over d f n l b)) (length-over d h n l b ∙ sym (length-over d f n l b)) (over-at d h n l) (λ i v. over-past d h n l i v ∙ sym (over-past d f n l i v)))
-
-  -- one of the filled places given anew
-  over-set : (s : ℕ) (x : A) → n ≤ length l → s < n → x ≡ h s → ((i : ℕ) → ¬ (i ≡ s) → f i ≡ h i) → set (over f n l) s x ≡ over h n l
-  over-set s x b v here others =
-      over-is d h n l (set (over f n l) s x) b (length-set (over f n l) s x ∙ length-over d f n l b) low (λ i u. getD-set-other (over f n l) s i x d (λ e. omega arith) ∙ over-past d f n l i u)
-    where
-      low : (i : ℕ) → i < n → getD (set (over f n l) s x) i d ≡ h i
-      low i u =
-          elim (ℕ-discrete i s) [
-            | yes e ↦ subst (λ (j : ℕ). getD (set (over f n l) s x) j d ≡ h j) (sym e) (getD-set-same (over f n l) s x d (omega (arith, length-over d f n l b)) ∙ here)
-            | no e ↦ getD-set-other (over f n l) s i x d e ∙ over-at d f n l i u ∙ others i e
-          ]
-
--- equal entries
-over-cong : {A : Type 0} {f h : ℕ → A} (n : ℕ) (l : List A) → ((i : ℕ) → i < n → f i ≡ h i) → over f n l ≡ over h n l
-unfolding over
-over-cong {A = A} n l e = ap (λ (k : List A). k ++ drop n l) (listTo-cong n _ _ e)
 
 -- The sums by own sequence, place by place.
 module _ (own opponent chance : List ℕ) (payoffs : List ℤ) (y : List ℕ) where
@@ -74,7 +48,7 @@ module _ (own opponent chance : List ℕ) (payoffs : List ℤ) (y : List ℕ) wh
 
     -- where the loop begins
     pub summing-none : Summing 0 before
-    summing-none = (omega arith, cleared ∙ over-cong sequences held (λ s v. sym (sum-none s)) ∙ sym (forgotten (sumAt opponent chance payoffs y own 0)))
+    summing-none = (omega arith, cleared ∙ over-cong (λ s. pos 0) (sumAt opponent chance payoffs y own 0) sequences held (λ s v. sym (sum-none s)) ∙ sym (forgotten (sumAt opponent chance payoffs y own 0)))
 
     -- the entry at the own sequence of place k
     here : (k : ℕ) → k < count → entryZ (over (sumAt opponent chance payoffs y own k) sequences before) (entry own k) +ℤ opponentTerm opponent chance payoffs y k ≡ sumAt opponent chance payoffs y own (k + 1) (entry own k)

@@ -8,6 +8,7 @@ use mir.Syntax.{w64}
 use mir.Val.{SFits}
 use Rattle.algebra.specs.Bounded.{sumTo, sumWhere}
 use Rattle.model.specs.Writing.{entry, entryZ}
+use Rattle.model.specs.Budget.{weightLimit}
 
 -- Of one player by place: the opponent's sequence numbers, chance weights and payoffs; the opponent's weights y by number.
 module _ (opponent chance : List ℕ) (payoffs : List ℤ) (y : List ℕ) where
@@ -38,7 +39,7 @@ pub record SumsReady (count sequences : ℕ) (own opponent chance : List ℕ) (p
   pub own-below : (k : ℕ) → k < count → entry own k < sequences
   pub opponent-below : (k : ℕ) → k < count → entry opponent k < length y
   pub chance-small : (k : ℕ) → k < count → entry chance k ≤ 4095
-  pub weight-small : (k : ℕ) → k < count → entry y (entry opponent k) ≤ 65535
+  pub weight-small : (k : ℕ) → k < count → entry y (entry opponent k) ≤ weightLimit
   pub fit : (n s : ℕ) → n ≤ count → SFits w64 (sumAt opponent chance payoffs y own n s)
 
 -- What adding up a player's value needs of them.
@@ -50,6 +51,6 @@ pub record ValueReady (count : ℕ) (first second chance : List ℕ) (payoffs : 
   pub first-below : (k : ℕ) → k < count → entry first k < length x
   pub second-below : (k : ℕ) → k < count → entry second k < length y
   pub chance-small : (k : ℕ) → k < count → entry chance k ≤ 4095
-  pub first-small : (k : ℕ) → k < count → entry x (entry first k) ≤ 65535
-  pub second-small : (k : ℕ) → k < count → entry y (entry second k) ≤ 65535
+  pub first-small : (k : ℕ) → k < count → entry x (entry first k) ≤ weightLimit
+  pub second-small : (k : ℕ) → k < count → entry y (entry second k) ≤ weightLimit
   pub fit : (n : ℕ) → n ≤ count → SFits w64 (pairSumTo first second chance payoffs x y n)

@@ -5,8 +5,9 @@ ghost use lib.ListN.{length};
 ghost use lib.IntN.{pos, _+ℤ_, _*ℤ_};
 ghost use mir.Syntax.{w64};
 ghost use mir.Val.{SFits};
+ghost use Rattle.algebra.specs.Arrays.{over};
 ghost use Rattle.model.specs.Writing.{entry};
-ghost use Rattle.game.specs.Answers.{over};
+ghost use Rattle.model.specs.Budget.{weightLimit};
 ghost use Rattle.slices.specs.Sums.{opponentTerm, sumAt, pairTerm, pairSumTo, SumsReady, ValueReady};
 
 // A payoff times its weight.
@@ -28,7 +29,7 @@ fn added(sum: i64, term: i64) -> i64
 
 // Chance weight × the opponent's weight × payoff of the leaf at place `k`.
 fn opponent_term(k: usize, opponent: &[usize], chance: &[u64], payoffs: &[i16], y: &[u64]) -> i64
-    requires { ⌜ (k < length (now opponent)) × (k < length (now chance)) × (k < length (now payoffs)) × (entry (now opponent) k < length (now y)) × (entry (now chance) k ≤ 4095) × (entry (now y) (entry (now opponent) k) ≤ 65535) ⌝ }
+    requires { ⌜ (k < length (now opponent)) × (k < length (now chance)) × (k < length (now payoffs)) × (entry (now opponent) k < length (now y)) × (entry (now chance) k ≤ 4095) × (entry (now y) (entry (now opponent) k) ≤ weightLimit) ⌝ }
     ensures { λ r. ⌜ r ≡ opponentTerm (now (opponent .entry)) (now (chance .entry)) (now (payoffs .entry)) (now (y .entry)) k ⌝ }
 {
     let weight = chance[k] * y[opponent[k]];
@@ -72,7 +73,7 @@ pub fn sums(
 
 // Chance weight × both players' weights.
 fn product(chance: u64, x: u64, y: u64) -> u64
-    requires { ⌜ (chance ≤ 4095) × (x ≤ 65535) × (y ≤ 65535) ⌝ }
+    requires { ⌜ (chance ≤ 4095) × (x ≤ weightLimit) × (y ≤ weightLimit) ⌝ }
     ensures { λ r. ⌜ (r ≡ chance * x * y) × (r < 2 ^ 48) ⌝ }
 {
     chance * x * y
@@ -88,7 +89,7 @@ fn pair_term(
     x: &[u64],
     y: &[u64],
 ) -> i64
-    requires { ⌜ (k < length (now first)) × (k < length (now second)) × (k < length (now chance)) × (k < length (now payoffs)) × (entry (now first) k < length (now x)) × (entry (now second) k < length (now y)) × (entry (now chance) k ≤ 4095) × (entry (now x) (entry (now first) k) ≤ 65535) × (entry (now y) (entry (now second) k) ≤ 65535) ⌝ }
+    requires { ⌜ (k < length (now first)) × (k < length (now second)) × (k < length (now chance)) × (k < length (now payoffs)) × (entry (now first) k < length (now x)) × (entry (now second) k < length (now y)) × (entry (now chance) k ≤ 4095) × (entry (now x) (entry (now first) k) ≤ weightLimit) × (entry (now y) (entry (now second) k) ≤ weightLimit) ⌝ }
     ensures { λ r. ⌜ r ≡ pairTerm (now (first .entry)) (now (second .entry)) (now (chance .entry)) (now (payoffs .entry)) (now (x .entry)) (now (y .entry)) k ⌝ }
 {
     let drawn = chance[k];

@@ -6,14 +6,13 @@ use mathlib.Core.List.{List, [], _∷_, map}
 use native.Mathlib.Omega.{arith}
 use lib.ListN.{length, drop, getD, length-append, length-map, List·getD-append}
 use lib.IntN.{ℤ, pos}
-use Rattle.algebra.specs.Arrays.{placed}
+use Rattle.algebra.specs.Arrays.{placed, over}
 use Rattle.algebra.proofs.Arrays.{placed-first}
 use Rattle.algebra.proofs.Lists.{listTo-is}
 use Rattle.model.specs.Game.{gameOf}
 use Rattle.model.specs.GameChecks.{gameRefusal}
 use Rattle.model.specs.Table.{Row, payoffTable}
 use Rattle.model.specs.Calls.{longEnough, afterCall, withRoom, tableChecks}
-use Rattle.game.specs.Answers.{over}
 use Rattle.game.proofs.Outcomes.{Sent, refuses}
 use Rattle.payoff.specs.Table.{TableIn}
 use Rattle.table.specs.declared.TableAnswer.{TableAnswer}

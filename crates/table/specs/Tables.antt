@@ -3,12 +3,12 @@ use Prim.Native.Nat.{ℕ, zero, suc, _≤_}
 use mathlib.Core.List.{List, [], _∷_, map}
 use lib.ListN.{length}
 use lib.IntN.{ℤ}
+use Rattle.algebra.specs.Arrays.{over}
 use Rattle.model.specs.Game.{gameOf}
 use Rattle.model.specs.Refusals.{firstFailing}
 use Rattle.model.specs.Table.{Row, payoffTable}
 use Rattle.model.specs.Writing.{entry, entryZ}
 use Rattle.model.specs.Calls.{afterCall, tableChecks}
-use Rattle.game.specs.Answers.{over}
 use Rattle.table.specs.declared.TableAnswer.{TableAnswer}
 use Rattle.table.specs.declared.TableAnswer.the-variants.{Given, Refused}
 
@@ -19,6 +19,7 @@ pub record Columns : Type 0 where
   pub sum1 : List ℤ
   pub sum2 : List ℤ
 
+-- of these
 abbrev pub columns : (sequence1 sequence2 : List ℕ) → (sum1 sum2 : List ℤ) → Columns
 columns sequence1 sequence2 sum1 sum2 = record { sequence1 = sequence1; sequence2 = sequence2; sum1 = sum1; sum2 = sum2 }
 

@@ -3,12 +3,12 @@ ghost use mathlib.Core.Path.{_≡_};
 ghost use Prim.Native.Nat.{_≤_};
 ghost use mathlib.Core.List.{[], _∷_};
 ghost use lib.ListN.{length};
+ghost use Rattle.algebra.specs.Arrays.{over};
 ghost use Rattle.model.specs.Writing.{entry, entryZ};
 ghost use Rattle.model.specs.Calls.{longEnough};
-ghost use Rattle.game.specs.Answers.{over};
 ghost use Rattle.table.specs.Tables.{columns, copied, Copyable, tableRefusal, tableAnswer, columnsAfter};
 
-// The payoff table stands in the lent buffers, so many rows; a refusal is 1 to 13, or 18.
+// How many rows the payoff table has, which stand in the lent buffers; a refusal is 1 to 13, or 18.
 pub enum TableAnswer {
     Given { rows: u64 },
     Refused(u64),
@@ -69,7 +69,7 @@ fn has_room(n: usize, sequence1: usize, sequence2: usize, sum1: usize, sum2: usi
     calls::room_and(n, sequence1, ok)
 }
 
-// The payoff table, each column into its buffer.
+// The payoff table, each column into its buffer: both players' sequence numbers, and for each player the sum of chance weight × payoff.
 pub fn payoff_table(
     game: &[u8],
     sequence1: &mut [u64],

@@ -13,7 +13,7 @@ use super::decimal::put_signed;
 use super::put_text;
 
 // The size of a number: no step leaves its type, at the smallest number either.
-fn magnitude(count: i64) -> u64
+pub fn magnitude(count: i64) -> u64
     ensures { λ r. ⌜ r ≡ natAbs count ⌝ }
 {
     if count < 0 {

@@ -2,33 +2,25 @@
 // Two runs that differ in that number alone differ by the time of the best responses.
 ghost use mathlib.Core.Path.{_≡_};
 ghost use Prim.Native.Nat.{_≤_};
-ghost use lib.ListN.{length};
-ghost use Rattle.model.specs.Game.{gameOf, one};
+ghost use Rattle.model.specs.Game.{gameOf, one, two};
 ghost use Rattle.model.specs.Sequences.{sequenceCount};
 ghost use Rattle.model.specs.Demand1.{GameRules};
 ghost use Rattle.game.specs.Records.{headerOf};
+ghost use Rattle.plan.specs.Weights.{Weights};
 ghost use Rattle.gather.specs.Leaves.{PlayerLeaves};
 ghost use Rattle.gather.specs.Numbers.{OwnNumbers};
 ghost use Rattle.gather.specs.Sets.{SetsGathered};
-ghost use Rattle.form.specs.Opponents.{Opponent};
 ghost use Rattle.form.specs.Prepared.{Prepared};
-ghost use Rattle.io.specs.Counts.{Counts};
 use game::Header;
-use libc::STDOUT_FILENO;
 use plan::PairAnswer;
-
-// One more than the bytes of the longest legal file, so that a longer one is refused and not cut to fit.
-const ROOM: usize = 36861;
-
-// Text to standard output.
-fn say(text: &[u8]) {
-    io::write_all(STDOUT_FILENO, text);
-}
+use trials::ROOM;
+use trials::load;
+use trials::say;
+use trials::say_number;
 
 // A line with the best move of set 0, or 0 where that is player 2's.
 fn say_move(number: usize) {
-    say(b"best move of set 0: ");
-    io::print_decimal(STDOUT_FILENO, number as u64);
+    say_number(b"best move of set 0: ", number as u64);
     say(b"\n");
 }
 
@@ -51,7 +43,7 @@ fn repeat(
     node: &[usize],
     times: usize,
 ) -> usize
-    requires { ⌜ (header ≡ headerOf (now game)) × GameRules (gameOf (now game)) × (sequences ≡ sequenceCount (gameOf (now game)) one) × PlayerLeaves (gameOf (now game)) one leaves (now own) (now opponent) (now chance) (now payoffs) × Opponent (gameOf (now game)) one (now y) × Prepared (gameOf (now game)) one (now head) (now next) (now lead) (now start) (now count) (now node) ⌝ }
+    requires { ⌜ (header ≡ headerOf (now game)) × GameRules (gameOf (now game)) × (sequences ≡ sequenceCount (gameOf (now game)) one) × PlayerLeaves (gameOf (now game)) one leaves (now own) (now opponent) (now chance) (now payoffs) × Weights (gameOf (now game)) two (now y) × Prepared (gameOf (now game)) one (now head) (now next) (now lead) (now start) (now count) (now node) ⌝ }
 {
     let mut moves = [0usize; 4095];
     let mut k = 0;
@@ -98,7 +90,7 @@ fn with_chains(
     node: &[usize],
     times: usize,
 ) -> usize
-    requires { ⌜ (header ≡ headerOf (now game)) × GameRules (gameOf (now game)) × (sequences ≡ sequenceCount (gameOf (now game)) one) × PlayerLeaves (gameOf (now game)) one leaves (now own) (now opponent) (now chance) (now payoffs) × Opponent (gameOf (now game)) one (now y) × SetsGathered (gameOf (now game)) (now players) (now count) (now start) (now leads) (now node) ⌝ }
+    requires { ⌜ (header ≡ headerOf (now game)) × GameRules (gameOf (now game)) × (sequences ≡ sequenceCount (gameOf (now game)) one) × PlayerLeaves (gameOf (now game)) one leaves (now own) (now opponent) (now chance) (now payoffs) × Weights (gameOf (now game)) two (now y) × SetsGathered (gameOf (now game)) (now players) (now count) (now start) (now leads) (now node) ⌝ }
 {
     let mut lead = [0usize; 4095];
     let mut head = [0usize; 4095];
@@ -150,7 +142,7 @@ fn with_leaves(
     node: &[usize],
     times: usize,
 ) -> usize
-    requires { ⌜ (header ≡ headerOf (now game)) × GameRules (gameOf (now game)) × (sequences ≡ sequenceCount (gameOf (now game)) one) × OwnNumbers (gameOf (now game)) (now starts) (now own1) (now own2) × Opponent (gameOf (now game)) one (now y) × SetsGathered (gameOf (now game)) (now players) (now count) (now start) (now leads) (now node) ⌝ }
+    requires { ⌜ (header ≡ headerOf (now game)) × GameRules (gameOf (now game)) × (sequences ≡ sequenceCount (gameOf (now game)) one) × OwnNumbers (gameOf (now game)) (now starts) (now own1) (now own2) × Weights (gameOf (now game)) two (now y) × SetsGathered (gameOf (now game)) (now players) (now count) (now start) (now leads) (now node) ⌝ }
 {
     let mut first = [0usize; 4095];
     let mut second = [0usize; 4095];
@@ -198,7 +190,7 @@ fn with_sets(
     y: &[u64],
     times: usize,
 ) -> usize
-    requires { ⌜ (header ≡ headerOf (now game)) × GameRules (gameOf (now game)) × (sequences ≡ sequenceCount (gameOf (now game)) one) × OwnNumbers (gameOf (now game)) (now starts) (now own1) (now own2) × Opponent (gameOf (now game)) one (now y) ⌝ }
+    requires { ⌜ (header ≡ headerOf (now game)) × GameRules (gameOf (now game)) × (sequences ≡ sequenceCount (gameOf (now game)) one) × OwnNumbers (gameOf (now game)) (now starts) (now own1) (now own2) × Weights (gameOf (now game)) two (now y) ⌝ }
 {
     let mut players = [0usize; 4095];
     let mut count = [0usize; 4095];
@@ -236,7 +228,7 @@ fn with_sets(
 
 // On an accepted game and weights of player 2's that fit.
 fn with_numbers(game: &[u8], header: Header, y: &[u64], times: usize) -> usize
-    requires { ⌜ (header ≡ headerOf (now game)) × GameRules (gameOf (now game)) × Opponent (gameOf (now game)) one (now y) ⌝ }
+    requires { ⌜ (header ≡ headerOf (now game)) × GameRules (gameOf (now game)) × Weights (gameOf (now game)) two (now y) ⌝ }
 {
     let mut starts = [0u64; 4095];
     let mut own1 = [0u64; 4095];
@@ -258,19 +250,6 @@ fn run(game: &[u8], plan: &[u8], times: usize) {
     say_move(with_numbers(game, pair.header, &y, times));
 }
 
-// The file's bytes at the start of the buffer, and how many.
-fn load(name: &[u8], buffer: &mut [u8]) -> usize
-    ensures { λ r. ⌜ Counts r (now (buffer .exit)) ⌝ }
-{
-    let file = os::open_read(name);
-    if file < 0 {
-        return 0;
-    }
-    let length = io::read_full(file, buffer);
-    libc::close(file);
-    length
-}
-
 // A byte as a number.
 fn wide(byte: u8) -> usize
     ensures { λ r. ⌜ (r ≡ byte) × (r ≤ 255) ⌝ }
@@ -287,8 +266,8 @@ fn times() -> usize {
 
 fn main() {
     let mut game = [0u8; ROOM];
-    let game_length = load(b"game.bin", &mut game);
     let mut plan = [0u8; ROOM];
-    let plan_length = load(b"plan.bin", &mut plan);
-    run(&game[..game_length], &plan[..plan_length], times());
+    let game_file = load(b"game.bin", &mut game);
+    let plan_file = load(b"plan.bin", &mut plan);
+    run(game_file, plan_file, times());
 }

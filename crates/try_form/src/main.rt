@@ -1,13 +1,24 @@
-// Tries payoff tables and values: those of each case that the list `cases` names, then the tables of those that `rooms` names, into buffers of each length.
+// Tries payoff tables, in columns and as rows, and values: those of each case that the list `cases` names, then the tables of those that `rooms` names, into buffers of each length.
 ghost use Prim.Native.Nat.{_≤_};
 ghost use lib.ListN.{length};
-ghost use Rattle.io.specs.Counts.{Counts};
+use entry::Row;
 use entry::TableAnswer;
 use entry::ValuesAnswer;
-use libc::STDOUT_FILENO;
-
-// One more than the bytes of the longest legal file, so that a longer one is refused and not cut to fit.
-const ROOM: usize = 36861;
+use text::amount::magnitude;
+use trials::ROOM;
+use trials::Trial;
+use trials::checks::check_of;
+use trials::checks::taken_in;
+use trials::lists::line_at;
+use trials::lists::name_of;
+use trials::lists::next_line;
+use trials::load;
+use trials::say;
+use trials::say_heading;
+use trials::say_number;
+use trials::say_numbers;
+use trials::say_signed;
+use trials::say_signed_numbers;
 
 // As many rows as the longest table has.
 const ROWS: usize = 4095;
@@ -18,135 +29,23 @@ const SHOWN: usize = 12;
 // The most entries of a buffer that is tried at each length.
 const MOST: usize = 8;
 
-// What a check is taken modulo.
-const MODULUS: u64 = 65521;
-
-// What a list's cases are tried for.
-enum Trial {
-    Check,
-    Rooms,
-}
-
-// Text to standard output.
-fn say(text: &[u8]) {
-    io::write_all(STDOUT_FILENO, text);
-}
-
-// A number after a space.
-fn say_entry(number: u64) {
-    say(b" ");
-    io::print_decimal(STDOUT_FILENO, number);
-}
-
-// A number after its label.
-fn say_number(label: &[u8], number: u64) {
-    say(label);
-    say_entry(number);
-}
-
-// How far a number is from 0; `-1 - number` fits an `i64` for each negative one.
-fn magnitude(number: i64) -> u64 {
-    if number < 0 {
-        return (-1 - number) as u64 + 1;
-    }
-    number as u64
-}
-
-// A number with its sign, after a space.
-fn say_sum(number: i64) {
-    if number < 0 {
-        say(b" -");
-    } else {
-        say(b" ");
-    }
-    io::print_decimal(STDOUT_FILENO, magnitude(number));
-}
-
 // Two numbers after their label.
 fn say_pair(label: &[u8], one: u64, two: u64) {
-    say(label);
-    say_entry(one);
-    say_entry(two);
+    say_number(label, one);
+    say_number(b" ", two);
 }
 
 // Two numbers with their signs, after their label.
 fn say_sum_pair(label: &[u8], one: i64, two: i64) {
-    say(label);
-    say_sum(one);
-    say_sum(two);
+    say_signed(label, one);
+    say_signed(b" ", two);
 }
 
-// The file's bytes at the start of the buffer, and how many. A file that is not there is told from an empty one.
-fn load(name: &[u8], buffer: &mut [u8]) -> usize
-    ensures { λ r. ⌜ Counts r (now (buffer .exit)) ⌝ }
-{
-    let file = os::open_read(name);
-    if file < 0 {
-        say(b"absent ");
-        return 0;
-    }
-    let length = io::read_full(file, buffer);
-    libc::close(file);
-    length
-}
-
-// Where the byte first stands from `start` on, or the text's end.
-fn find(text: &[u8], start: usize, byte: u8) -> usize
-    requires { ⌜ start ≤ length (now text) ⌝ }
-    ensures { λ r. ⌜ (start ≤ r) × (r ≤ length (now (text .entry))) ⌝ }
-{
-    let mut at = start;
-    while at < text.len() {
-        if text[at] == byte {
-            return at;
-        }
-        at += 1;
-    }
-    at
-}
-
-// The name of a case: the folder in its files' paths.
-fn say_name(path: &[u8]) {
-    let end = find(path, 0, b'/');
-    say(&path[..end]);
-}
-
-// Numbers after their name.
-fn say_numbers(name: &[u8], numbers: &[u64]) {
-    say(name);
-    let mut at = 0;
-    while at < numbers.len() {
-        say_entry(numbers[at]);
-        at += 1;
-    }
-}
-
-// Sums after their name.
-fn say_sums(name: &[u8], sums: &[i64]) {
-    say(name);
-    let mut at = 0;
-    while at < sums.len() {
-        say_sum(sums[at]);
-        at += 1;
-    }
-}
-
-// A check after one more number.
-fn taken_in(check: u64, number: u64) -> u64 {
-    (check % MODULUS * 31 + number % MODULUS) % MODULUS
-}
-
-// A check of the first `rows` entries of a column: each one's sign, which is 0, and the entry are taken in.
+// A check of the first `rows` entries of a column.
 fn check_of_numbers(rows: usize, column: &[u64]) -> u64
     requires { ⌜ rows ≤ length (now column) ⌝ }
 {
-    let mut check = 0;
-    let mut at = 0;
-    while at < rows {
-        check = taken_in(taken_in(check, 0), column[at]);
-        at += 1;
-    }
-    check
+    check_of(&column[..rows])
 }
 
 // A check after one more sum: its sign, 1 below 0 and else 0, and its magnitude are taken in.
@@ -170,8 +69,8 @@ fn check_of_sums(rows: usize, column: &[i64]) -> u64
 
 // One row of a table.
 fn say_row(sequence1: u64, sequence2: u64, sum1: i64, sum2: i64) {
-    say_pair(b"row", sequence1, sequence2);
-    say_sum_pair(b" sums", sum1, sum2);
+    say_pair(b"row ", sequence1, sequence2);
+    say_sum_pair(b" sums ", sum1, sum2);
     say(b"\n");
 }
 
@@ -197,11 +96,10 @@ fn say_rows(
 fn say_checks(rows: usize, sequence1: &[u64], sequence2: &[u64], sum1: &[i64], sum2: &[i64])
     requires { ⌜ (rows ≤ length (now sequence1)) × (rows ≤ length (now sequence2)) × (rows ≤ length (now sum1)) × (rows ≤ length (now sum2)) ⌝ }
 {
-    let check1 = check_of_numbers(rows, sequence1);
-    let check2 = check_of_numbers(rows, sequence2);
-    say_pair(b"checks", check1, check2);
-    say_entry(check_of_sums(rows, sum1));
-    say_entry(check_of_sums(rows, sum2));
+    say_number(b"checks ", check_of_numbers(rows, sequence1));
+    say_number(b" ", check_of_numbers(rows, sequence2));
+    say_number(b" ", check_of_sums(rows, sum1));
+    say_number(b" ", check_of_sums(rows, sum2));
     say(b"\n");
 }
 
@@ -221,13 +119,13 @@ fn say_table(rows: usize, sequence1: &[u64], sequence2: &[u64], sum1: &[i64], su
 // The answer of the call for a table.
 fn say_answer(answer: TableAnswer) {
     match answer {
-        TableAnswer::Given { rows } => say_number(b": table of", rows),
-        TableAnswer::Refused(number) => say_number(b": refusal", number),
+        TableAnswer::Given { rows } => say_number(b": table of ", rows),
+        TableAnswer::Refused(number) => say_number(b": refusal ", number),
     }
 }
 
 // The heading of a table, and how many rows stand in buffers that have room for all.
-fn say_heading(answer: TableAnswer) -> usize
+fn say_size(answer: TableAnswer) -> usize
     ensures { λ r. ⌜ r ≤ 4095 ⌝ }
 {
     say_answer(answer);
@@ -248,7 +146,7 @@ fn try_table(game: &[u8]) {
     let mut sum1 = [7i64; ROWS];
     let mut sum2 = [7i64; ROWS];
     let answer = entry::payoff_table(game, &mut sequence1, &mut sequence2, &mut sum1, &mut sum2);
-    let rows = say_heading(answer);
+    let rows = say_size(answer);
     say_table(rows, &sequence1, &sequence2, &sum1, &sum2);
 }
 
@@ -264,29 +162,29 @@ fn say_values(answer: ValuesAnswer) {
             first,
             second,
         } => {
-            say_sum_pair(b": values", value1, value2);
-            say_sum_pair(b" best", best1, best2);
-            say_number(b" over", root_weight);
-            say_entry(first);
-            say_entry(second);
+            say_sum_pair(b": values ", value1, value2);
+            say_sum_pair(b" best ", best1, best2);
+            say_number(b" over ", root_weight);
+            say_number(b" ", first);
+            say_number(b" ", second);
         }
-        ValuesAnswer::Refused(number) => say_number(b": refusal", number),
+        ValuesAnswer::Refused(number) => say_number(b": refusal ", number),
     }
 }
 
 // The lengths of four buffers.
 fn say_lengths(sequence1: usize, sequence2: usize, sum1: usize, sum2: usize) {
-    say_pair(b"room", sequence1 as u64, sequence2 as u64);
-    say_entry(sum1 as u64);
-    say_entry(sum2 as u64);
+    say_pair(b"room ", sequence1 as u64, sequence2 as u64);
+    say_number(b" ", sum1 as u64);
+    say_number(b" ", sum2 as u64);
 }
 
 // What the buffers hold.
 fn say_columns(sequence1: &[u64], sequence2: &[u64], sum1: &[i64], sum2: &[i64]) {
     say_numbers(b" sequence1", sequence1);
     say_numbers(b" sequence2", sequence2);
-    say_sums(b" sum1", sum1);
-    say_sums(b" sum2", sum2);
+    say_signed_numbers(b" sum1", sum1);
+    say_signed_numbers(b" sum2", sum2);
     say(b"\n");
 }
 
@@ -333,11 +231,91 @@ fn try_rooms(game: &[u8]) {
     }
 }
 
-// The table and the values of a pair.
+// The four numbers of a row.
+fn say_held(row: Row) {
+    say(b";");
+    say_number(b" ", row.sequence1);
+    say_number(b" ", row.sequence2);
+    say_signed(b" ", row.sum1);
+    say_signed(b" ", row.sum2);
+}
+
+// The first `room` rows.
+fn say_all_held(rows: [Row; ROWS], room: usize)
+    requires { ⌜ room ≤ 4095 ⌝ }
+{
+    let mut at = 0;
+    while at < room {
+        say_held(rows[at]);
+        at += 1;
+    }
+}
+
+// A check after one more row.
+fn row_taken_in(check: u64, row: Row) -> u64 {
+    let check = taken_in(taken_in(check, 0), row.sequence1);
+    let check = taken_in(taken_in(check, 0), row.sequence2);
+    let check = sum_taken_in(check, row.sum1);
+    sum_taken_in(check, row.sum2)
+}
+
+// A check of all rows.
+fn check_of_rows(rows: [Row; ROWS]) -> u64 {
+    let mut check = 0;
+    let mut at = 0;
+    while at < ROWS {
+        check = row_taken_in(check, rows[at]);
+        at += 1;
+    }
+    check
+}
+
+// The answer, and what the rows hold: each of a few, or a check of all.
+fn say_as_rows(answer: TableAnswer, rows: [Row; ROWS], room: usize)
+    requires { ⌜ room ≤ 4095 ⌝ }
+{
+    say_answer(answer);
+    if room <= MOST {
+        say_all_held(rows, room);
+    } else {
+        say_number(b" check ", check_of_rows(rows));
+    }
+    say(b"\n");
+}
+
+// The line of `room` rows of 7s.
+fn try_as_rows(game: &[u8], room: usize)
+    requires { ⌜ room ≤ 4095 ⌝ }
+{
+    let held = Row {
+        sequence1: 7,
+        sequence2: 7,
+        sum1: 7,
+        sum2: 7,
+    };
+    let mut rows = [held; ROWS];
+    let answer = entry::payoff_rows(game, &mut rows[..room]);
+    say_as_rows(answer, rows, room);
+}
+
+// A line for each number of rows up to a few.
+fn try_rooms_as_rows(game: &[u8]) {
+    let mut room = 0;
+    while room <= MOST {
+        say_number(b"rows ", room as u64);
+        try_as_rows(game, room);
+        room += 1;
+    }
+}
+
+// The table, in columns and as rows, and the values of a pair.
 fn try_pair(name: &[u8], game: &[u8], plan: &[u8]) {
-    say_name(name);
+    say(name);
     try_table(game);
-    say_name(name);
+    say(name);
+    say(b" as rows");
+    try_as_rows(game, ROWS);
+    say(name);
     say_values(entry::values(game, plan));
     say(b"\n");
 }
@@ -347,10 +325,9 @@ fn try_files(name: &[u8], game: &[u8], plan: &[u8], trial: Trial) {
     match trial {
         Trial::Check => try_pair(name, game, plan),
         Trial::Rooms => {
-            say(b"rooms of ");
-            say_name(name);
-            say(b"\n");
+            say_heading(b"rooms of ", name);
             try_rooms(game);
+            try_rooms_as_rows(game);
         }
     }
 }
@@ -358,35 +335,22 @@ fn try_files(name: &[u8], game: &[u8], plan: &[u8], trial: Trial) {
 // One case by the paths of its two files.
 fn try_case(game_path: &[u8], plan_path: &[u8], trial: Trial) {
     let mut game = [0u8; ROOM];
-    let game_length = load(game_path, &mut game);
     let mut plan = [0u8; ROOM];
-    let plan_length = load(plan_path, &mut plan);
-    try_files(game_path, &game[..game_length], &plan[..plan_length], trial);
+    let game_file = load(game_path, &mut game);
+    let plan_file = load(plan_path, &mut plan);
+    try_files(name_of(game_path), game_file, plan_file, trial);
 }
 
-// Each case of a list, whose lines are by turns a game's path and its plan's.
-fn try_cases(list: &[u8], trial: Trial) {
-    let mut start = 0;
-    while start < list.len() {
-        let middle = find(list, start, b'\n');
-        if middle == list.len() {
-            return;
-        }
-        let next = middle + 1;
-        let end = find(list, next, b'\n');
-        try_case(&list[start..middle], &list[next..end], trial);
-        if end == list.len() {
-            return;
-        }
-        start = end + 1;
-    }
-}
-
-// The cases that the file names.
+// Each case of the list of that name, whose lines are by turns a game's path and its plan's.
 fn try_list(name: &[u8], trial: Trial) {
-    let mut list = io::large_buffer();
-    let length = load(name, &mut list);
-    try_cases(&list[..length], trial);
+    let mut room = io::large_buffer();
+    let list = load(name, &mut room);
+    let mut game = 0;
+    while game < list.len() {
+        let plan = next_line(list, game);
+        try_case(line_at(list, game), line_at(list, plan), trial);
+        game = next_line(list, plan);
+    }
 }
 
 fn main() {

@@ -1,17 +1,20 @@
-// Tries the entry points of game files: a line for each file that the list `cases` names, then every look-up in three of them.
-ghost use Prim.Native.Nat.{_≤_};
-ghost use lib.ListN.{length};
-ghost use Rattle.io.specs.Counts.{Counts};
+// Tries the entry points of game files: a line for each file that the list `cases` names, then every look-up in three of them and all fields of three.
 use entry::FieldsAnswer;
 use entry::GameAnswer;
 use entry::NodeAnswer;
 use entry::SequenceAnswer;
 use entry::SetAnswer;
 use entry::Stand;
-use libc::STDOUT_FILENO;
-
-// One more than the bytes of the longest legal file, so that a longer one is refused and not cut to fit.
-const ROOM: usize = 36861;
+use trials::ROOM;
+use trials::lists::line_at;
+use trials::lists::next_line;
+use trials::load;
+use trials::say;
+use trials::say_heading;
+use trials::say_number;
+use trials::say_numbers;
+use trials::say_signed;
+use trials::say_signed_numbers;
 
 // What a number is looked up as.
 enum Table {
@@ -25,43 +28,14 @@ struct Size {
     nodes: u64,
 }
 
-// Text to standard output.
-fn say(text: &[u8]) {
-    io::write_all(STDOUT_FILENO, text);
-}
-
-// A number after its label.
-fn say_number(before: &[u8], number: u64) {
-    say(before);
-    io::print_decimal(STDOUT_FILENO, number);
-}
-
 // A payoff with its sign.
 fn say_payoff(payoff: i16) {
-    if payoff < 0 {
-        say_number(b" -", -(payoff as i64) as u64);
-    } else {
-        say_number(b" ", payoff as u64);
-    }
+    say_signed(b" ", payoff as i64);
 }
 
 // The number of a refusal.
 fn say_refusal(number: u64) {
     say_number(b": refusal ", number);
-}
-
-// The file's bytes at the start of the buffer, and how many. A file that is not there is told from an empty one.
-fn load(name: &[u8], buffer: &mut [u8]) -> usize
-    ensures { λ r. ⌜ Counts r (now (buffer .exit)) ⌝ }
-{
-    let file = os::open_read(name);
-    if file < 0 {
-        say(b"absent ");
-        return 0;
-    }
-    let length = io::read_full(file, buffer);
-    libc::close(file);
-    length
 }
 
 // The answer to a game file.
@@ -137,37 +111,18 @@ fn say_node(answer: NodeAnswer) {
 // The line of one case.
 fn try_case(name: &[u8]) {
     let mut buffer = [0u8; ROOM];
-    let length = load(name, &mut buffer);
+    let game = load(name, &mut buffer);
     say(name);
-    say_game(entry::check_game(&buffer[..length]));
+    say_game(entry::check_game(game));
     say(b"\n");
-}
-
-// The end of the line that begins at `start`.
-fn line_end(list: &[u8], start: usize) -> usize
-    requires { ⌜ start ≤ length (now list) ⌝ }
-    ensures { λ r. ⌜ (start ≤ r) × (r ≤ length (now (list .entry))) ⌝ }
-{
-    let mut end = start;
-    while end < list.len() {
-        if list[end] == b'\n' {
-            return end;
-        }
-        end += 1;
-    }
-    end
 }
 
 // The line of each case that the list names.
 fn try_cases(list: &[u8]) {
     let mut start = 0;
     while start < list.len() {
-        let end = line_end(list, start);
-        try_case(&list[start..end]);
-        if end == list.len() {
-            return;
-        }
-        start = end + 1;
+        try_case(line_at(list, start));
+        start = next_line(list, start);
     }
 }
 
@@ -214,11 +169,8 @@ fn measured(answer: GameAnswer) -> Size {
 // The look-ups in one case.
 fn try_look_ups(name: &[u8]) {
     let mut buffer = [0u8; ROOM];
-    let length = load(name, &mut buffer);
-    say(b"look-ups in ");
-    say(name);
-    say(b"\n");
-    let game = &buffer[..length];
+    let game = load(name, &mut buffer);
+    say_heading(b"look-ups in ", name);
     let size = measured(entry::check_game(game));
     look_up_all(game, Table::Sets, size.sets);
     look_up_all(game, Table::Nodes, size.nodes);
@@ -237,37 +189,6 @@ fn say_fields(answer: FieldsAnswer) {
             say_number(b" ", root_weight);
         }
         FieldsAnswer::Refused(number) => say_refusal(number),
-    }
-}
-
-// A column of numbers after its name.
-fn say_numbers(name: &[u8], column: &[u64]) {
-    say(name);
-    let mut at = 0;
-    while at < column.len() {
-        say_number(b" ", column[at]);
-        at += 1;
-    }
-}
-
-// The sign of a payoff.
-fn say_sign(payoff: i64) {
-    if payoff < 0 {
-        say(b" -");
-    } else if payoff == 0 {
-        say(b" 0");
-    } else {
-        say(b" +");
-    }
-}
-
-// The signs of a column of payoffs after its name.
-fn say_signs(name: &[u8], column: &[i64]) {
-    say(name);
-    let mut at = 0;
-    while at < column.len() {
-        say_sign(column[at]);
-        at += 1;
     }
 }
 
@@ -292,8 +213,8 @@ fn say_columns(
     say_numbers(b" weights", weights);
     say_numbers(b" node-sets", node_sets);
     say_numbers(b" chance-moves", chance_moves);
-    say_signs(b" payoffs1", payoffs1);
-    say_signs(b" payoffs2", payoffs2);
+    say_signed_numbers(b" payoffs1", payoffs1);
+    say_signed_numbers(b" payoffs2", payoffs2);
     say(b"\n");
 }
 
@@ -365,23 +286,23 @@ fn try_buffers(game: &[u8], payoffs2: &mut [i64]) {
     );
 }
 
-// All fields of one case: with room for them, and with the last buffer one entry too short.
+// All fields of one case: with room for 9 nodes and one more, and with a last buffer one entry too short for them.
 fn try_all_fields(name: &[u8]) {
     let mut buffer = [0u8; ROOM];
-    let length = load(name, &mut buffer);
+    let game = load(name, &mut buffer);
     let mut room = [7i64; 10];
     let mut short = [7i64; 8];
-    try_buffers(&buffer[..length], &mut room);
-    try_buffers(&buffer[..length], &mut short);
+    try_buffers(game, &mut room);
+    try_buffers(game, &mut short);
 }
 
 fn main() {
     let mut list = io::buffer();
-    let length = load(b"cases", &mut list);
-    try_cases(&list[..length]);
+    try_cases(load(b"cases", &mut list));
     try_look_ups(b"00-study-game");
     try_look_ups(b"00-chance-game");
     try_look_ups(b"13-set-below-itself");
     try_all_fields(b"00-study-game");
+    try_all_fields(b"00-no-sets");
     try_all_fields(b"13-set-below-itself");
 }

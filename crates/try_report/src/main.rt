@@ -1,12 +1,16 @@
 // Tries the desk program's text: for each case that the list `cases` names; into buffers around the text's length for those that `rooms` names; and the lines of some refusals.
 ghost use Prim.Native.Nat.{_≤_};
-ghost use lib.ListN.{length};
-ghost use Rattle.io.specs.Counts.{Counts};
 use entry::WriteAnswer;
-use libc::STDOUT_FILENO;
-
-// One more than the bytes of the longest legal file, so that a longer one is refused and not cut to fit.
-const ROOM: usize = 36861;
+use trials::ROOM;
+use trials::Trial;
+use trials::checks::taken_in;
+use trials::lists::line_at;
+use trials::lists::name_of;
+use trials::lists::next_line;
+use trials::load;
+use trials::say;
+use trials::say_heading;
+use trials::say_number;
 
 // One more than the bytes of the longest text.
 const MOST: usize = 69795;
@@ -14,64 +18,9 @@ const MOST: usize = 69795;
 // As many bytes as the longest line of a refusal has.
 const LINE: usize = 29;
 
-// What a check is taken modulo.
-const MODULUS: u64 = 65521;
-
-// What a list's cases are tried for.
-enum Trial {
-    Text,
-    Rooms,
-}
-
-// Text to standard output.
-fn say(text: &[u8]) {
-    io::write_all(STDOUT_FILENO, text);
-}
-
-// A number after its label.
-fn say_number(before: &[u8], number: u64) {
-    say(before);
-    io::print_decimal(STDOUT_FILENO, number);
-}
-
-// The file's bytes at the start of the buffer, and how many. A file that is not there is told from an empty one.
-fn load(name: &[u8], buffer: &mut [u8]) -> usize
-    ensures { λ r. ⌜ Counts r (now (buffer .exit)) ⌝ }
-{
-    let file = os::open_read(name);
-    if file < 0 {
-        say(b"absent ");
-        return 0;
-    }
-    let length = io::read_full(file, buffer);
-    libc::close(file);
-    length
-}
-
-// Where the byte first stands from `start` on, or the text's end.
-fn find(text: &[u8], start: usize, byte: u8) -> usize
-    requires { ⌜ start ≤ length (now text) ⌝ }
-    ensures { λ r. ⌜ (start ≤ r) × (r ≤ length (now (text .entry))) ⌝ }
-{
-    let mut at = start;
-    while at < text.len() {
-        if text[at] == byte {
-            return at;
-        }
-        at += 1;
-    }
-    at
-}
-
-// The name of a case: the folder in its files' paths.
-fn say_name(path: &[u8]) {
-    let end = find(path, 0, b'/');
-    say(&path[..end]);
-}
-
 // A check after one more byte.
-fn taken_in(check: u64, byte: u8) -> u64 {
-    (check % MODULUS * 31 + byte as u64) % MODULUS
+fn byte_taken_in(check: u64, byte: u8) -> u64 {
+    taken_in(check, byte as u64)
 }
 
 // A check of a buffer: each byte is taken in.
@@ -79,7 +28,7 @@ fn check_of(buffer: &[u8]) -> u64 {
     let mut check = 0;
     let mut at = 0;
     while at < buffer.len() {
-        check = taken_in(check, buffer[at]);
+        check = byte_taken_in(check, buffer[at]);
         at += 1;
     }
     check
@@ -168,16 +117,12 @@ fn try_rooms(game: &[u8], plan: &[u8]) {
 // A heading, and the text or the lines of its buffers.
 fn try_files(name: &[u8], game: &[u8], plan: &[u8], trial: Trial) {
     match trial {
-        Trial::Text => {
-            say(b"== ");
-            say_name(name);
-            say(b"\n");
+        Trial::Check => {
+            say_heading(b"== ", name);
             try_text(game, plan);
         }
         Trial::Rooms => {
-            say(b"rooms of ");
-            say_name(name);
-            say(b"\n");
+            say_heading(b"rooms of ", name);
             try_rooms(game, plan);
         }
     }
@@ -186,35 +131,22 @@ fn try_files(name: &[u8], game: &[u8], plan: &[u8], trial: Trial) {
 // One case by the paths of its two files.
 fn try_case(game_path: &[u8], plan_path: &[u8], trial: Trial) {
     let mut game = [0u8; ROOM];
-    let game_length = load(game_path, &mut game);
     let mut plan = [0u8; ROOM];
-    let plan_length = load(plan_path, &mut plan);
-    try_files(game_path, &game[..game_length], &plan[..plan_length], trial);
+    let game_file = load(game_path, &mut game);
+    let plan_file = load(plan_path, &mut plan);
+    try_files(name_of(game_path), game_file, plan_file, trial);
 }
 
-// Each case of a list, whose lines are by turns a game's path and its plan's.
-fn try_cases(list: &[u8], trial: Trial) {
-    let mut start = 0;
-    while start < list.len() {
-        let middle = find(list, start, b'\n');
-        if middle == list.len() {
-            return;
-        }
-        let next = middle + 1;
-        let end = find(list, next, b'\n');
-        try_case(&list[start..middle], &list[next..end], trial);
-        if end == list.len() {
-            return;
-        }
-        start = end + 1;
-    }
-}
-
-// The cases that the file names.
+// Each case of the list of that name, whose lines are by turns a game's path and its plan's.
 fn try_list(name: &[u8], trial: Trial) {
-    let mut list = io::large_buffer();
-    let length = load(name, &mut list);
-    try_cases(&list[..length], trial);
+    let mut room = io::large_buffer();
+    let list = load(name, &mut room);
+    let mut game = 0;
+    while game < list.len() {
+        let plan = next_line(list, game);
+        try_case(line_at(list, game), line_at(list, plan), trial);
+        game = next_line(list, plan);
+    }
 }
 
 // A number with its line.
@@ -237,7 +169,7 @@ fn try_lines() {
 }
 
 fn main() {
-    try_list(b"cases", Trial::Text);
+    try_list(b"cases", Trial::Check);
     try_list(b"rooms", Trial::Rooms);
     try_lines();
 }

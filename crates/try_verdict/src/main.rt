@@ -1,12 +1,18 @@
 // Tries the verdict on pairs: a line for each case that the list `cases` names, then those that `rooms` names with buffers of each length.
 ghost use Prim.Native.Nat.{_≤_};
-ghost use lib.ListN.{length};
-ghost use Rattle.io.specs.Counts.{Counts};
 use entry::VerdictAnswer;
-use libc::STDOUT_FILENO;
-
-// One more than the bytes of the longest legal file, so that a longer one is refused and not cut to fit.
-const ROOM: usize = 36861;
+use trials::ROOM;
+use trials::Trial;
+use trials::checks::check_of;
+use trials::lists::line_at;
+use trials::lists::name_of;
+use trials::lists::next_line;
+use trials::load;
+use trials::say;
+use trials::say_heading;
+use trials::say_number;
+use trials::say_numbers;
+use trials::say_signed;
 
 // As many moves as the longest strategy has.
 const MOVES: usize = 4095;
@@ -16,104 +22,6 @@ const SHOWN: usize = 12;
 
 // The most entries of a buffer that is tried at each length.
 const MOST: usize = 8;
-
-// What a check is taken modulo.
-const MODULUS: u64 = 65521;
-
-// What a list's cases are tried for.
-enum Trial {
-    Check,
-    Rooms,
-}
-
-// Text to standard output.
-fn say(text: &[u8]) {
-    io::write_all(STDOUT_FILENO, text);
-}
-
-// A number after its label.
-fn say_number(before: &[u8], number: u64) {
-    say(before);
-    io::print_decimal(STDOUT_FILENO, number);
-}
-
-// How far a number is from 0; `-1 - number` fits an `i64` for each negative one.
-fn magnitude(number: i64) -> u64 {
-    if number < 0 {
-        return (-1 - number) as u64 + 1;
-    }
-    number as u64
-}
-
-// A number with its sign, after its label.
-fn say_signed(before: &[u8], number: i64) {
-    say(before);
-    if number < 0 {
-        say(b"-");
-    }
-    io::print_decimal(STDOUT_FILENO, magnitude(number));
-}
-
-// The file's bytes at the start of the buffer, and how many. A file that is not there is told from an empty one.
-fn load(name: &[u8], buffer: &mut [u8]) -> usize
-    ensures { λ r. ⌜ Counts r (now (buffer .exit)) ⌝ }
-{
-    let file = os::open_read(name);
-    if file < 0 {
-        say(b"absent ");
-        return 0;
-    }
-    let length = io::read_full(file, buffer);
-    libc::close(file);
-    length
-}
-
-// Where the byte first stands from `start` on, or the text's end.
-fn find(text: &[u8], start: usize, byte: u8) -> usize
-    requires { ⌜ start ≤ length (now text) ⌝ }
-    ensures { λ r. ⌜ (start ≤ r) × (r ≤ length (now (text .entry))) ⌝ }
-{
-    let mut at = start;
-    while at < text.len() {
-        if text[at] == byte {
-            return at;
-        }
-        at += 1;
-    }
-    at
-}
-
-// The name of a case: the folder in its files' paths.
-fn say_name(path: &[u8]) {
-    let end = find(path, 0, b'/');
-    say(&path[..end]);
-}
-
-// Numbers after their name.
-fn say_numbers(name: &[u8], numbers: &[u64]) {
-    say(name);
-    let mut at = 0;
-    while at < numbers.len() {
-        say_number(b" ", numbers[at]);
-        at += 1;
-    }
-}
-
-// A check after one more number.
-fn taken_in(check: u64, number: u64) -> u64 {
-    (check % MODULUS * 31 + number % MODULUS) % MODULUS
-}
-
-// A check of a list: each entry's sign, which is 0, and the entry are taken in.
-fn check_of(numbers: &[u64]) -> u64 {
-    let mut check = 0;
-    let mut at = 0;
-    while at < numbers.len() {
-        check = taken_in(taken_in(check, 0), numbers[at]);
-        at += 1;
-    }
-    check
-}
 
 // The answer on a pair, but for the moves.
 fn say_verdict(answer: VerdictAnswer) {
@@ -204,13 +112,11 @@ fn try_rooms(game: &[u8], plan: &[u8]) {
 fn try_files(name: &[u8], game: &[u8], plan: &[u8], trial: Trial) {
     match trial {
         Trial::Check => {
-            say_name(name);
+            say(name);
             try_pair(game, plan);
         }
         Trial::Rooms => {
-            say(b"rooms of ");
-            say_name(name);
-            say(b"\n");
+            say_heading(b"rooms of ", name);
             try_rooms(game, plan);
         }
     }
@@ -219,35 +125,22 @@ fn try_files(name: &[u8], game: &[u8], plan: &[u8], trial: Trial) {
 // One case by the paths of its two files.
 fn try_case(game_path: &[u8], plan_path: &[u8], trial: Trial) {
     let mut game = [0u8; ROOM];
-    let game_length = load(game_path, &mut game);
     let mut plan = [0u8; ROOM];
-    let plan_length = load(plan_path, &mut plan);
-    try_files(game_path, &game[..game_length], &plan[..plan_length], trial);
+    let game_file = load(game_path, &mut game);
+    let plan_file = load(plan_path, &mut plan);
+    try_files(name_of(game_path), game_file, plan_file, trial);
 }
 
-// Each case of a list, whose lines are by turns a game's path and its plan's.
-fn try_cases(list: &[u8], trial: Trial) {
-    let mut start = 0;
-    while start < list.len() {
-        let middle = find(list, start, b'\n');
-        if middle == list.len() {
-            return;
-        }
-        let next = middle + 1;
-        let end = find(list, next, b'\n');
-        try_case(&list[start..middle], &list[next..end], trial);
-        if end == list.len() {
-            return;
-        }
-        start = end + 1;
-    }
-}
-
-// The cases that the file names.
+// Each case of the list of that name, whose lines are by turns a game's path and its plan's.
 fn try_list(name: &[u8], trial: Trial) {
-    let mut list = io::large_buffer();
-    let length = load(name, &mut list);
-    try_cases(&list[..length], trial);
+    let mut room = io::large_buffer();
+    let list = load(name, &mut room);
+    let mut game = 0;
+    while game < list.len() {
+        let plan = next_line(list, game);
+        try_case(line_at(list, game), line_at(list, plan), trial);
+        game = next_line(list, plan);
+    }
 }
 
 fn main() {

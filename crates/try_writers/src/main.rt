@@ -3,9 +3,14 @@
 ghost use Prim.Native.Nat.{_≤_, _+_};
 ghost use mathlib.Core.Path.{_≡_};
 ghost use lib.ListN.{length, take};
-ghost use Rattle.io.specs.Counts.{Counts};
 use entry::WriteAnswer;
 use libc::STDOUT_FILENO;
+use trials::ROOM;
+use trials::lists::line_at;
+use trials::lists::next_line;
+use trials::load;
+use trials::say;
+use trials::say_number;
 
 // The most words of a case: a game's room and D0, then ten lists of a count and 16 entries.
 const WORDS: usize = 172;
@@ -22,27 +27,13 @@ const MOST: usize = 96;
 // What each lent byte is before the call.
 const HELD: u8 = 165;
 
-// One more than the bytes of the longest legal file.
-const ROOM: usize = 36861;
-
-// How many of those are shown.
+// How many bytes of a longer buffer are shown.
 const SHOWN: usize = 8;
 
 // What a case gives a writer.
 enum Kind {
     Game,
     Plan,
-}
-
-// Text to standard output.
-fn say(text: &[u8]) {
-    io::write_all(STDOUT_FILENO, text);
-}
-
-// A number after its label.
-fn say_number(before: &[u8], number: u64) {
-    say(before);
-    io::print_decimal(STDOUT_FILENO, number);
 }
 
 // A byte as two hexadecimal digits.
@@ -75,20 +66,6 @@ fn say_written(answer: WriteAnswer) {
         WriteAnswer::Written(size) => say_number(b": written ", size as u64),
         WriteAnswer::Refused(number) => say_number(b": refusal ", number),
     }
-}
-
-// The file's bytes at the start of the buffer, and how many. A file that is not there is told from an empty one.
-fn load(name: &[u8], buffer: &mut [u8]) -> usize
-    ensures { λ r. ⌜ Counts r (now (buffer .exit)) ⌝ }
-{
-    let file = os::open_read(name);
-    if file < 0 {
-        say(b"absent ");
-        return 0;
-    }
-    let length = io::read_full(file, buffer);
-    libc::close(file);
-    length
 }
 
 // A number from a file as a length of at most `most`.
@@ -186,46 +163,26 @@ fn try_words(kind: Kind, words: &[u64])
 // The line of one case.
 fn try_case(kind: Kind, name: &[u8]) {
     let mut bytes = [0u8; CASE_BYTES];
-    let length = load(name, &mut bytes);
+    let file = load(name, &mut bytes);
     let mut words = [0u64; WORDS];
-    bits::runs::read_run(&bytes[..length], 0, 64, WORDS, &mut words, 0);
+    bits::runs::read_run(file, 0, 64, WORDS, &mut words, 0);
     say(name);
     try_words(kind, &words);
-}
-
-// The end of the line that begins at `start`.
-fn line_end(names: &[u8], start: usize) -> usize
-    requires { ⌜ start ≤ length (now names) ⌝ }
-    ensures { λ r. ⌜ (start ≤ r) × (r ≤ length (now (names .entry))) ⌝ }
-{
-    let mut end = start;
-    while end < names.len() {
-        if names[end] == b'\n' {
-            return end;
-        }
-        end += 1;
-    }
-    end
 }
 
 // The line of each case that is named.
 fn try_cases(kind: Kind, names: &[u8]) {
     let mut start = 0;
     while start < names.len() {
-        let end = line_end(names, start);
-        try_case(kind, &names[start..end]);
-        if end == names.len() {
-            return;
-        }
-        start = end + 1;
+        try_case(kind, line_at(names, start));
+        start = next_line(names, start);
     }
 }
 
 // The cases that the file names.
 fn try_list(kind: Kind, name: &[u8]) {
     let mut names = io::buffer();
-    let length = load(name, &mut names);
-    try_cases(kind, &names[..length]);
+    try_cases(kind, load(name, &mut names));
 }
 
 // Writes a game with D0 = 1 whose lists of sets are one list, and those of nodes another.
@@ -257,7 +214,7 @@ fn try_alike(sets: &[u64], nodes: &[u64], payoffs: &[i64]) {
 fn try_long_game(sets: usize, nodes: usize)
     requires { ⌜ (sets ≤ 4096) × (nodes ≤ 4096) ⌝ }
 {
-    io::print_decimal(STDOUT_FILENO, sets as u64);
+    say_number(b"", sets as u64);
     say_number(b" sets and ", nodes as u64);
     say(b" nodes");
     let of_sets = [0u64; 4096];
@@ -277,7 +234,7 @@ fn try_weights(weights: &[u64]) {
 fn try_long_plan(count: usize)
     requires { ⌜ count ≤ 5001 ⌝ }
 {
-    io::print_decimal(STDOUT_FILENO, count as u64);
+    say_number(b"", count as u64);
     say(b" weights");
     let ones = [1u64; 5001];
     try_weights(&ones[..count]);

@@ -13,44 +13,39 @@ use lib.ListN.{length, drop, length-map}
 use mir.Syntax.{w64}
 use mir.Val.{SFits, toZ, ofZ}
 use mir.Facts.{toZ-ofZ}
-use Rattle.algebra.specs.Arrays.{placed}
+use Rattle.algebra.specs.Arrays.{placed, Holds}
 use Rattle.algebra.proofs.Arrays.{placed-none, placed-first}
-use Rattle.model.specs.Game.{Game, Player, gameOf, one, two, other}
-use Rattle.model.specs.Sequences.{Move, sequenceCount}
+use Rattle.model.specs.Game.{Game, Player, gameOf, one, two, other, playerNumber}
+use Rattle.model.specs.Sequences.{Move}
 use Rattle.model.specs.Plan.{PlanPair, planPairOf}
-use Rattle.model.specs.GameChecks.{GameAccepted}
-use Rattle.model.specs.PlanChecks.{Files, pairChecks, pairRefusal}
+use Rattle.model.specs.PlanChecks.{Files, pairRefusal}
 use Rattle.model.specs.Earnings.{setsOf, valueBase, valueCount}
 use Rattle.model.specs.BestResponse.{bestCount, bestResponse}
 use Rattle.model.specs.Verdict.{Verdict, equilibrium, deviation, gain, deviates, verdict}
-use Rattle.model.specs.Calls.{Lent, withRoom, verdictChecks, shownMoves, afterCall}
+use Rattle.model.specs.Calls.{verdictChecks, shownMoves, afterCall}
 use Rattle.model.specs.Writing.{entry}
-use Rattle.model.specs.Demand1.{GameRules}
 use Rattle.model.proofs.Budget.{Budget, budget, game-limits, plan-limits}
 use Rattle.model.proofs.Demand1.{game-rules, plan-rules, pair-parts}
 use Rattle.model.proofs.Demand3.{demand3}
-use Rattle.model.proofs.SamePlans.{best-response-agrees}
-use Rattle.game.specs.Answers.{Holds, over}
-use Rattle.game.proofs.Headers.{header-weight}
-use Rattle.game.proofs.Outcomes.{refuses}
+use Rattle.game.proofs.Headers.{header-weight, header-sets}
 use Rattle.plan.specs.declared.PairHeader.{PairHeader}
-use Rattle.plan.specs.Weights.{weightByNumber, planByNumber, pairByNumber}
 use Rattle.plan.proofs.Pairs.{PairOpened}
-use Rattle.plan.proofs.Stored.{stored-weight, stored-value, stored-best}
 use Rattle.form.specs.declared.Values.{Values}
 use Rattle.form.specs.BestMoves.{ownBestMove}
 use Rattle.form.specs.Values.{valuesOf}
+use Rattle.verdict.specs.declared.Verdict.{Verdict as NumberVerdict}
 use Rattle.verdict.specs.declared.Verdict.the-variants as Numbers
-use Rattle.verdict.specs.Demand.{statedBy, numbered}
-use Rattle.verdict.specs.Judgement.{judged, playerNumber, verdictOf, GainFits}
-use Rattle.verdict.proofs.Demands.{demand3-met}
-use Rattle.verdict.proofs.Judging.{judged-is, gains-fit, says-deviation}
+use Rattle.verdict.specs.Demand.{numbered}
+use Rattle.verdict.specs.Judgement.{judged, GainFits}
+use Rattle.verdict.proofs.Demands.{statedBy, demand3-met}
+use Rattle.verdict.proofs.Judging.{verdictOf, judged-is, gains-fit, says-deviation}
 use Rattle.verdict.proofs.Strategies.{strategy-is, strategy-length}
 use Rattle.verdict.specs.declared.VerdictAnswer.{VerdictAnswer}
 use Rattle.verdict.specs.declared.VerdictAnswer.the-variants.{Accepted, Deviation, Refused}
 use Rattle.verdict.specs.Verdicts.{verdictRefusal, verdictOn, verdictGiven, verdictAnswer, shownIn, statedIn, Demanded, deviationShown, deviationBuffer}
 use Rattle.calls.proofs.Denominators.{first-is, second-is}
-use Rattle.calls.proofs.Refusals.{some-pair, part-fails, last-fails, none-fails}
+use Rattle.calls.proofs.Refusals.{pair-first, pair-short, pair-room}
+use Rattle.calls.proofs.Rooms.{refused-kept}
 
 -- a verdict as it is given states what the model's does
 stated-is : (base : ℕ) (v : Verdict) → statedIn (verdictGiven base v) ≡ statedBy v
@@ -89,14 +84,17 @@ module _ (game plan buffer : List ℕ) where
   abbrev pub Judgement : VerdictAnswer → List ℕ → Type 0
   Judgement r after = Result r after × Demanded (verdictRefusal game plan room) game plan r after
 
+  abbrev size : Files → ℕ
+  size f = length (shownMoves (verdictOn (f .game) (f .plan)))
+
   -- a call that is not refused has a pair that fits
   pair-free : verdictRefusal game plan room ≡ 0 → pairRefusal game plan ≡ 0
-  unfolding pairRefusal verdictChecks withRoom
+  unfolding verdictChecks
   pair-free z = go (pairRefusal game plan) refl
     where
       go : (k : ℕ) → pairRefusal game plan ≡ k → pairRefusal game plan ≡ 0
       go zero e = e
-      go (suc k) e = let f : verdictRefusal game plan room ≡ suc k = part-fails pairChecks some-pair (λ (c : Lent Files). c .input) 18 _ _ (sym e) (λ n. omega arith) in absurd (omega arith)
+      go (suc k) e = let f : verdictRefusal game plan room ≡ suc k = pair-first size game plan room (sym e) (λ n. omega arith) in absurd (omega arith)
 
   -- demand 3 follows from the answer and the buffer
   demanded : {r : VerdictAnswer} {after : List ℕ} → Result r after → Demanded (verdictRefusal game plan room) game plan r after
@@ -112,28 +110,23 @@ module _ (game plan buffer : List ℕ) where
   both : {r : VerdictAnswer} {after : List ℕ} → Result r after → Judgement r after
   both R = (R, demanded R)
 
-  kept-is : {r : ℕ} → verdictRefusal game plan room ≡ r → ¬ (r ≡ 0) → Result (Refused r) buffer
-  unfolding afterCall
-  kept-is {r} e n = (refuses (λ k. verdictAnswer k game plan) Refused (λ k. refl) e n, go r e n)
-    where
-      go : (r : ℕ) → verdictRefusal game plan room ≡ r → ¬ (r ≡ 0) → buffer ≡ afterCall (verdictRefusal game plan room) (shownIn game plan) buffer
-      go zero e n = absurd (n refl)
-      go (suc r) e n = rw e
+  refused : {r : ℕ} → verdictRefusal game plan room ≡ r → ¬ (r ≡ 0) → Result (Refused r) buffer
+  refused e n = refused-kept (λ k. verdictAnswer k game plan) Refused (λ k. refl) (shownIn game plan) buffer e n
 
   -- the pair's own refusal
   pub pair-refused : {r : ℕ} → r ≡ pairRefusal game plan → ¬ (r ≡ 0) → Judgement (Refused r) buffer
-  unfolding pairRefusal verdictChecks withRoom
-  pair-refused e n = both (kept-is (part-fails pairChecks some-pair (λ (c : Lent Files). c .input) 18 _ _ e n) n)
+  unfolding verdictChecks
+  pair-refused e n = both (refused (pair-first size game plan room e n) n)
 
   -- a buffer too short for the strategy to be shown
   short : pairRefusal game plan ≡ 0 → room < length (shownMoves (verdictOn game plan)) → verdictRefusal game plan room ≡ 18
-  unfolding pairRefusal verdictChecks withRoom
-  short e l = last-fails pairChecks some-pair (λ (c : Lent Files). c .input) 18 _ _ e (rw (lt-leb (length (shownMoves (verdictOn game plan))) room l))
+  unfolding verdictChecks
+  short e l = pair-short size game plan room e l
 
   -- one that has room for it
   free : pairRefusal game plan ≡ 0 → length (shownMoves (verdictOn game plan)) ≤ room → verdictRefusal game plan room ≡ 0
-  unfolding pairRefusal verdictChecks withRoom
-  free e l = none-fails pairChecks some-pair (λ (c : Lent Files). c .input) 18 _ _ e (rw (le-leb (length (shownMoves (verdictOn game plan))) room l))
+  unfolding verdictChecks
+  free e l = pair-room size game plan room e l
 
   -- an accepted pair needs no room
   pub accepted-given : pairRefusal game plan ≡ 0 → verdictOn game plan ≡ equilibrium → {base : ℕ} → base ≡ valueBase (gameOf game) (planPairOf (gameOf game) plan) → Judgement (Accepted base) buffer
@@ -153,7 +146,7 @@ module _ (game plan buffer : List ℕ) where
             let full = short e (omega (arith, measured)) in
             let answer : r ≡ Refused 18 = a ∙ sym (shown-without sets room (playerNumber p) z base (omega arith)) in
             let kept : after ≡ buffer = b ∙ sym (buffer-without moves buffer (omega arith)) in
-            both (rw (answer, kept) (kept-is full (λ n. omega arith)))
+            both (rw (answer, kept) (refused full (λ n. omega arith)))
         | no n ↦
             let none = free e (omega (arith, measured)) in
             let answer : r ≡ Deviation (playerNumber p) z base sets = a ∙ sym (shown-with-room sets room (playerNumber p) z base (omega arith)) in
@@ -161,21 +154,18 @@ module _ (game plan buffer : List ℕ) where
             both (answer ∙ rw (none, v, count, based), put ∙ placed-first moves buffer ∙ rw (none, v, strategy))
       ]
 
--- both arrays hold the weights of the plan file
+-- A pair that was read.
 module _ (game plan : List ℕ) (h : PairHeader) (o : PairOpened game plan h) where
   -- D0 × D1 × D2
   pub base-is : h .header .«root_weight» * (h .denominators .first * h .denominators .second) ≡ valueBase (gameOf game) (planPairOf (gameOf game) plan)
   unfolding valueBase
   base-is = rw (header-weight (h .header) game (o .header), first-is game plan h o, second-is game plan h o)
 
-  pub weight-few : h .header .«root_weight» ≤ 4095
-  weight-few = rw (header-weight (h .header) game (o .header)) (game-limits game .root)
-
-  pub first-few : h .denominators .first ≤ 65535
-  first-few = rw (first-is game plan h o) (plan-limits (gameOf game) plan one .denominator)
-
-  pub second-few : h .denominators .second ≤ 65535
-  second-few = rw (second-is game plan h o) (plan-limits (gameOf game) plan two .denominator)
+  -- what multiplying them asks
+  pub base-asks : (h .header .«root_weight» ≤ 4095) × (h .denominators .first ≤ 65535) × (h .denominators .second ≤ 65535)
+  base-asks =
+      rw (header-weight (h .header) game (o .header), first-is game plan h o, second-is game plan h o)
+      (game-limits game .root, plan-limits (gameOf game) plan one .denominator, plan-limits (gameOf game) plan two .denominator)
 
   file-budget : Budget (gameOf game) (planPairOf (gameOf game) plan)
   file-budget =
@@ -185,53 +175,23 @@ module _ (game plan : List ℕ) (h : PairHeader) (o : PairOpened game plan h) wh
   file-gain : (p : Player) → GainFits (planPairOf (gameOf game) plan p .denominator) (bestCount (gameOf game) p (planPairOf (gameOf game) plan (other p))) (valueCount (gameOf game) (planPairOf (gameOf game) plan) p)
   file-gain p = gains-fit (gameOf game) (planPairOf (gameOf game) plan) file-budget p (plan-limits (gameOf game) plan p)
 
-  module _ {x y : List ℕ} (held1 : Holds (weightByNumber (gameOf game) plan one) (sequenceCount (gameOf game) one) x) (held2 : Holds (weightByNumber (gameOf game) plan two) (sequenceCount (gameOf game) two) y) where
-    abbrev Evaluated : Values → Type 0
-    Evaluated v = v ≡ valuesOf (gameOf game) (pairByNumber (gameOf game) (entry x) (entry y))
-
-    rules : GameRules (gameOf game)
-    rules = game-rules game (o .game-none)
-
-    pub gain1-fits : {v : Values} → Evaluated v → GainFits (h .denominators .first) (v .best1) (v .value1)
+  -- What was evaluated of it.
+  module _ {v : Values} (values : v ≡ valuesOf (gameOf game) (planPairOf (gameOf game) plan)) where
+    -- both gains fit
+    pub judge-asks : GainFits (h .denominators .first) (v .best1) (v .value1) × GainFits (h .denominators .second) (v .best2) (v .value2)
     unfolding valuesOf
-    gain1-fits e =
-        rw (
-          first-is game plan h o,
-          ap (λ (v : Values). v .value1) e ∙ stored-value (gameOf game) rules plan held1 held2 one,
-          ap (λ (v : Values). v .best1) e ∙ stored-best (gameOf game) rules plan held1 held2 one,
-        )
-        (file-gain one)
+    judge-asks = rw (values, first-is game plan h o, second-is game plan h o) (file-gain one, file-gain two)
 
-    pub gain2-fits : {v : Values} → Evaluated v → GainFits (h .denominators .second) (v .best2) (v .value2)
+    -- the judgement d on it is the model's verdict in numbers
+    pub judged-as : {d : NumberVerdict} → d ≡ judged (v .value1) (v .value2) (v .best1) (v .best2) (h .denominators .first) (h .denominators .second) → d ≡ verdictOf (verdictOn game plan)
     unfolding valuesOf
-    gain2-fits e =
-        rw (
-          second-is game plan h o,
-          ap (λ (v : Values). v .value2) e ∙ stored-value (gameOf game) rules plan held1 held2 two,
-          ap (λ (v : Values). v .best2) e ∙ stored-best (gameOf game) rules plan held1 held2 two,
-        )
-        (file-gain two)
+    judged-as e = e ∙ rw (values, first-is game plan h o, second-is game plan h o) (judged-is (gameOf game) (planPairOf (gameOf game) plan))
 
-    -- what is judged of what was evaluated
-    pub judged-as : {v : Values} → Evaluated v → judged (v .value1) (v .value2) (v .best1) (v .best2) (h .denominators .first) (h .denominators .second) ≡ verdictOf (verdictOn game plan)
-    unfolding valuesOf
-    judged-as e =
-        rw (
-          ap (λ (v : Values). v .value1) e ∙ stored-value (gameOf game) rules plan held1 held2 one,
-          ap (λ (v : Values). v .value2) e ∙ stored-value (gameOf game) rules plan held1 held2 two,
-          ap (λ (v : Values). v .best1) e ∙ stored-best (gameOf game) rules plan held1 held2 one,
-          ap (λ (v : Values). v .best2) e ∙ stored-best (gameOf game) rules plan held1 held2 two,
-          first-is game plan h o,
-          second-is game plan h o,
-        )
-        (judged-is (gameOf game) (planPairOf (gameOf game) plan))
-
--- Best moves by set, against the other's stored weights, are those of the best response to the file's plan.
-module _ (game plan : List ℕ) (p : Player) (accepted : GameAccepted game) {y : List ℕ} (held : Holds (weightByNumber (gameOf game) plan (other p)) (sequenceCount (gameOf game) (other p)) y) where
-  pub strategy-shown : (before moves : List ℕ) → moves ≡ over (ownBestMove (gameOf game) p (planByNumber (gameOf game) (other p) (entry y))) (gameOf game .sets) before → map (entry moves) (setsOf (gameOf game) p) ≡ map (λ (x : Move). x .1) (bestResponse (gameOf game) p (planPairOf (gameOf game) plan (other p)))
-  strategy-shown before moves e =
-      strategy-is (gameOf game) p (planByNumber (gameOf game) (other p) (entry y)) before moves e
-      ∙ ap (map (λ (x : Move). x .1)) (best-response-agrees (gameOf game) p _ _ (stored-weight (gameOf game) (game-rules game accepted) plan (other p) held))
+  -- what showing a deviation asks, with so many moves
+  pub show-asks : {player moves : ℕ} → player < 2 → gameOf game .sets ≤ moves → (h .header .sets ≡ gameOf game .sets) × (player < 2) × (h .header .sets ≤ moves) × (h .header .«root_weight» ≤ 4095) × (h .denominators .first ≤ 65535) × (h .denominators .second ≤ 65535)
+  show-asks l m =
+      let sets = header-sets (h .header) game (o .header) in
+      (sets, l, omega (arith, sets), base-asks .0, base-asks .1, base-asks .2)
 
 -- The player that a deviation names, 1 or else 2, and what the model's verdict then is.
 module _ (game plan : List ℕ) (player : ℕ) (z : ℤ) (e : verdictOf (verdictOn game plan) ≡ Numbers.Deviation player z) where
@@ -266,11 +226,11 @@ gain-stated g q B p z l e = subst Fitting e (go (ltZ (pos 0) (gain g q one)) (lt
 
 -- The deviation of p with the best moves that were evaluated for him, as it is shown; its gain is read from an i64.
 module _ (game plan buffer : List ℕ) (h : PairHeader) (o : PairOpened game plan h) (p : Player) (z : ℤ) where
-  pub strategy-given : verdictOn game plan ≡ deviation p z (bestResponse (gameOf game) p (planPairOf (gameOf game) plan (other p))) → {y : List ℕ} → Holds (weightByNumber (gameOf game) plan (other p)) (sequenceCount (gameOf game) (other p)) y → (before moves : List ℕ) → moves ≡ over (ownBestMove (gameOf game) p (planByNumber (gameOf game) (other p) (entry y))) (gameOf game .sets) before → {r : VerdictAnswer} {after : List ℕ} → r ≡ deviationShown (length (setsOf (gameOf game) p)) (length buffer) (playerNumber p) (toZ w64 (ofZ w64 z)) (h .header .«root_weight» * (h .denominators .first * h .denominators .second)) → after ≡ deviationBuffer (map (entry moves) (setsOf (gameOf game) p)) buffer → Judgement game plan buffer r after
-  strategy-given v held before moves e a b =
+  pub strategy-given : verdictOn game plan ≡ deviation p z (bestResponse (gameOf game) p (planPairOf (gameOf game) plan (other p))) → {moves : List ℕ} → Holds (ownBestMove (gameOf game) p (planPairOf (gameOf game) plan (other p))) (gameOf game .sets) moves → {r : VerdictAnswer} {after : List ℕ} → r ≡ deviationShown (length (setsOf (gameOf game) p)) (length buffer) (playerNumber p) (toZ w64 (ofZ w64 z)) (h .header .«root_weight» * (h .denominators .first * h .denominators .second)) → after ≡ deviationBuffer (map (entry moves) (setsOf (gameOf game) p)) buffer → Judgement game plan buffer r after
+  strategy-given v {moves} best a b =
       let g = gameOf game in
       let y = planPairOf g plan (other p) in
-      deviation-given game plan buffer (o .none) p z (bestResponse g p y) v (length (setsOf g p)) (h .header .«root_weight» * (h .denominators .first * h .denominators .second)) (map (entry moves) (setsOf g p)) (strategy-length g p y) (base-is game plan h o) (strategy-shown game plan p (o .game-none) held before moves e) (rw (toZ-ofZ (gain-stated g (planPairOf g plan) (file-budget game plan h o) p z _ v)) at a) b
+      deviation-given game plan buffer (o .none) p z (bestResponse g p y) v (length (setsOf g p)) (h .header .«root_weight» * (h .denominators .first * h .denominators .second)) (map (entry moves) (setsOf g p)) (strategy-length g p y) (base-is game plan h o) (strategy-is g p y moves best) (rw (toZ-ofZ (gain-stated g (planPairOf g plan) (file-budget game plan h o) p z _ v)) at a) b
 
 -- D1 × D2 and D0 × D1 × D2 are far below 2 ^ 64
 pub base-small : (a b c : ℕ) → a ≤ 4095 → b ≤ 65535 → c ≤ 65535 → (b * c ≤ 65535 * 65535) × (a * (b * c) ≤ 4095 * (65535 * 65535))

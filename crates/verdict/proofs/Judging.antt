@@ -8,7 +8,7 @@ use lib.Signed.{ltZ}
 use mir.Syntax.{w64}
 use mir.Val.{SFits, toZ, ofZ}
 use mir.Facts.{toZ-ofZ}
-use Rattle.model.specs.Game.{Game, Player, one, two, other}
+use Rattle.model.specs.Game.{Game, Player, one, two, other, playerNumber}
 use Rattle.model.specs.Plan.{PlanPair}
 use Rattle.model.specs.Earnings.{valueCount}
 use Rattle.model.specs.BestResponse.{bestCount, bestResponse}
@@ -16,7 +16,7 @@ use Rattle.model.specs.Verdict as Model
 use Rattle.model.proofs.Budget.{Budget, PlanLimits}
 use Rattle.verdict.specs.declared.Verdict.{Verdict}
 use Rattle.verdict.specs.declared.Verdict.the-variants.{Equilibrium, Deviation}
-use Rattle.verdict.specs.Judgement.{gainOf, judged, playerNumber, verdictOf, GainFits}
+use Rattle.verdict.specs.Judgement.{gainOf, judged, GainFits}
 use Rattle.verdict.specs.Demand.{numbered}
 
 -- The steps to a gain, with what is read of a denominator, a best value and a value.
@@ -45,6 +45,11 @@ module _ (value1 value2 best1 best2 : ℤ) (d1 d2 : ℕ) where
   pub none-gains : (gain1 gain2 : ℤ) → gain1 ≡ gainOf d1 best1 value1 → gain2 ≡ gainOf d2 best2 value2 → ltZ (pos 0) gain1 ≡ false → ltZ (pos 0) gain2 ≡ false → Equilibrium ≡ judged value1 value2 best1 best2 d1 d2
   unfolding judged
   none-gains gain1 gain2 e f n m = rw (← e, ← f, n, m)
+
+-- the model's verdict in numbers, without the moves
+abbrev pub verdictOf : Model.Verdict → Verdict
+verdictOf Model.equilibrium = Equilibrium
+verdictOf (Model.deviation p gain moves) = Deviation (playerNumber p) gain
 
 -- the player that his number names
 pub numbered-back : (p : Player) → numbered (playerNumber p) ≡ p

@@ -1,4 +1,5 @@
 pub mod Demands
+pub mod Evaluated
 pub mod Judged
 pub mod Judging
 pub mod Strategies

@@ -5,7 +5,7 @@ use mathlib.Core.Bool.{cond}
 use mathlib.Core.List.{List, [], _∷_, map}
 use lib.Dec.{T}
 use lib.ListN.{length, set, length-map}
-use Rattle.algebra.specs.Arrays.{placed}
+use Rattle.algebra.specs.Arrays.{placed, Holds}
 use Rattle.algebra.proofs.Lists.{joinTo-cong, map-joinTo}
 use Rattle.algebra.proofs.Tests.{dec, cond-yes, cond-no}
 use Rattle.algebra.proofs.Gathering.{next-yes, next-no, column-yes, column-no}
@@ -18,8 +18,6 @@ use Rattle.model.specs.Writing.{entry}
 use Rattle.model.proofs.BestResponses.{response-sets}
 use Rattle.game.specs.declared.SetEntry.{SetEntry}
 use Rattle.game.specs.Records.{SetRead}
-use Rattle.game.specs.Answers.{over}
-use Rattle.game.proofs.Loops.{over-at}
 use Rattle.plan.proofs.Balance.{own-set, not-own-set}
 use Rattle.form.specs.BestMoves.{ownBestMove}
 use Rattle.verdict.specs.Strategy.{ownSetAt}
@@ -47,9 +45,9 @@ module _ {bytes : List ℕ} {h : ℕ} {e : SetEntry} (S : SetRead bytes h e) (b 
 -- Moves by set number that are p's best moves against y.
 module _ (g : Game) (p : Player) (y : RealizationPlan) where
   -- his sets' moves are those of the best response
-  pub strategy-is : (before moves : List ℕ) → moves ≡ over (ownBestMove g p y) (g .sets) before → map (entry moves) (setsOf g p) ≡ map (λ (x : Move). x .1) (bestResponse g p y)
+  pub strategy-is : (moves : List ℕ) → Holds (ownBestMove g p y) (g .sets) moves → map (entry moves) (setsOf g p) ≡ map (λ (x : Move). x .1) (bestResponse g p y)
   unfolding setsOf bestResponse bestAt ownBestMove
-  strategy-is before moves e =
+  strategy-is moves held =
       map-joinTo (entry moves) (g .sets) _
       ∙ joinTo-cong (g .sets) _ _ (λ h l. at-set h l (dec (owns g p h)))
       ∙ sym (map-joinTo (λ (x : Move). x .1) (g .sets) _)
@@ -57,7 +55,7 @@ module _ (g : Game) (p : Player) (y : RealizationPlan) where
       at-set : (h : ℕ) → h < g .sets → Dec (T (owns g p h)) → map (entry moves) (cond (owns g p h) (h ∷ []) []) ≡ map (λ (x : Move). x .1) (cond (owns g p h) (bestAt g p y h) [])
       at-set h l (yes o) =
           rw (cond-yes (owns g p h) (h ∷ []) [] o, cond-yes {A = List Move} (owns g p h) ((h, bestMove g p y h) ∷ []) [] o)
-          (ap (λ (m : ℕ). m ∷ []) (ap (λ (l : List ℕ). entry l h) e ∙ over-at 0 (ownBestMove g p y) (g .sets) before h l ∙ cond-yes (owns g p h) (bestMove g p y h) 0 o))
+          (ap (λ (m : ℕ). m ∷ []) (held .at h l ∙ cond-yes (owns g p h) (bestMove g p y h) 0 o))
       at-set h l (no o) = rw (cond-no (owns g p h) (h ∷ []) [] o, cond-no {A = List Move} (owns g p h) ((h, bestMove g p y h) ∷ []) [] o)
 
   -- and as many

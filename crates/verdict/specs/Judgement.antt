@@ -5,8 +5,7 @@ use lib.IntN.{ℤ, pos, _-ℤ_, _*ℤ_}
 use lib.Signed.{ltZ}
 use mir.Syntax.{w64}
 use mir.Val.{SFits}
-use Rattle.model.specs.Game.{Player, one, two}
-use Rattle.model.specs.Verdict as Model
+use Rattle.model.specs.Budget.{weightLimit}
 use Rattle.verdict.specs.declared.Verdict.{Verdict}
 use Rattle.verdict.specs.declared.Verdict.the-variants.{Equilibrium, Deviation}
 
@@ -21,23 +20,8 @@ judged value1 value2 best1 best2 d1 d2 =
     let gain2 = gainOf d2 best2 value2 in
     cond (ltZ (pos 0) gain1) (Deviation 1 gain1) (cond (ltZ (pos 0) gain2) (Deviation 2 gain2) Equilibrium)
 
--- the number that names a player
-abbrev pub playerNumber : Player → ℕ
-playerNumber one = 1
-playerNumber two = 2
-
--- the model's verdict in numbers, without the moves
-abbrev pub verdictOf : Model.Verdict → Verdict
-verdictOf Model.equilibrium = Equilibrium
-verdictOf (Model.deviation p gain moves) = Deviation (playerNumber p) gain
-
--- both steps to a gain fit an i64
+-- a denominator within the limit of weights, with which both steps to a gain fit an i64
 pub record GainFits (denominator : ℕ) (best value : ℤ) : Type 0 where
-  pub denominator-fits : denominator ≤ 65535
+  pub denominator-fits : denominator ≤ weightLimit
   pub scaled : SFits w64 (pos denominator *ℤ best)
   pub gain : SFits w64 (gainOf denominator best value)
-
--- to unfold this is to unfold all of this file: for closed computation
-unfoldable pub opened : Unit {0}
-unfolding gainOf judged
-opened = tt

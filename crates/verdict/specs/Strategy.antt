@@ -7,8 +7,3 @@ use Rattle.model.specs.Game.{Game, Player, owns}
 -- set h alone, where it is p's
 unfoldable pub ownSetAt : Game → Player → (h : ℕ) → List ℕ
 ownSetAt g p h = cond (owns g p h) (h ∷ []) []
-
--- to unfold this is to unfold all of this file: for closed computation
-unfoldable pub opened : Unit {0}
-unfolding ownSetAt
-opened = tt

@@ -7,14 +7,13 @@ use lib.Dec.{leb}
 use lib.IntN.{ℤ, pos}
 use lib.ListN.{length}
 use Rattle.algebra.specs.Arrays.{placed}
-use Rattle.model.specs.Game.{gameOf}
+use Rattle.model.specs.Game.{gameOf, playerNumber}
 use Rattle.model.specs.Refusals.{firstFailing}
 use Rattle.model.specs.Sequences.{Move}
 use Rattle.model.specs.Plan.{planPairOf}
 use Rattle.model.specs.Earnings.{valueBase}
 use Rattle.model.specs.Verdict.{Verdict, equilibrium, deviation, verdict}
 use Rattle.model.specs.Calls.{verdictChecks, shownMoves}
-use Rattle.verdict.specs.Judgement.{playerNumber}
 use Rattle.verdict.specs.Demand.{Stated, accepted, deviates, Demand3Met}
 use Rattle.verdict.specs.declared.VerdictAnswer.{VerdictAnswer}
 use Rattle.verdict.specs.declared.VerdictAnswer.the-variants.{Accepted, Deviation, Refused}
@@ -58,8 +57,3 @@ deviationShown sets room player gain base = cond (leb sets room) (Deviation play
 -- the buffer with these moves, where it has room for them; else as it was
 unfoldable pub deviationBuffer : (moves buffer : List ℕ) → List ℕ
 deviationBuffer moves buffer = cond (leb (length moves) (length buffer)) (placed 0 moves buffer) buffer
-
--- to unfold this is to unfold all of this file: for closed computation
-unfoldable pub opened : Unit {0}
-unfolding deviationShown deviationBuffer
-opened = tt

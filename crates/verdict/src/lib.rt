@@ -1,8 +1,18 @@
 // The verdict on a plan pair: who can gain and how much, and the best response that shows it.
+use form::Values;
+use plan::PairHeader;
+
 pub mod judgement;
+pub mod pairs;
 pub mod strategy;
 pub mod values;
 pub mod verdicts;
+
+// What was read and evaluated of a pair; a refusal is 1 to 16.
+pub enum PairEvaluated {
+    Evaluated { pair: PairHeader, values: Values },
+    Refused(u64),
+}
 
 // Nobody can gain; or the player, 1 or 2, and his gain over D0 × D1 × D2.
 pub enum Verdict {

@@ -2,30 +2,20 @@
 ghost use mathlib.Core.Path.{_≡_};
 ghost use Rattle.model.specs.PlanChecks.{pairRefusal};
 ghost use Rattle.verdict.specs.Values.{valuesAnswer};
+use super::PairEvaluated;
 use super::ValuesAnswer;
-use plan::PairAnswer;
+use super::pairs;
 
 // The players' values and best values, with what they are counted over.
 pub fn values(game: &[u8], plan: &[u8]) -> ValuesAnswer
     ensures { λ r. ⌜ r ≡ valuesAnswer (pairRefusal (now (game .entry)) (now (plan .entry))) (now (game .entry)) (now (plan .entry)) ⌝ }
 {
-    let mut x = [0u64; 4095];
-    let mut y = [0u64; 4095];
-    let answer = plan::pair::read(game, plan, &mut x, &mut y);
-    let PairAnswer::Fits(pair) = answer else {
-        return ValuesAnswer::Refused(plan::pair::refusal(answer));
-    };
     let mut moves1 = [0usize; 4095];
     let mut moves2 = [0usize; 4095];
-    let values = form::evaluate::evaluate(
-        game,
-        pair.header,
-        pair.counts,
-        &x,
-        &y,
-        &mut moves1,
-        &mut moves2,
-    );
+    let evaluated = pairs::evaluate(game, plan, &mut moves1, &mut moves2);
+    let PairEvaluated::Evaluated { pair, values } = evaluated else {
+        return ValuesAnswer::Refused(pairs::refusal(evaluated));
+    };
     ValuesAnswer::Given {
         value1: values.value1,
         value2: values.value2,

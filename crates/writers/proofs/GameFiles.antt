@@ -24,7 +24,7 @@ use Rattle.writers.specs.GameWriter.{setLists, gameWriterRefusal}
 use Rattle.writers.proofs.Given.{nodePart}
 use Rattle.writers.proofs.Puttings.{byte-count}
 use Rattle.writers.proofs.Refusals.{misfit, short, written}
-use Rattle.writers.proofs.Words.{set-width, node-alone}
+use Rattle.writers.proofs.Nodes.{set-width, node-alone}
 
 module _ (t : GameFields) where
   -- the sets' lists alone
@@ -39,30 +39,31 @@ module _ (t : GameFields) where
   abbrev nodeBytes : List ℕ
   nodeBytes = pack (joinTo (length (t .kinds)) (nodeBits (nodePart t)))
 
-  -- the header's bits are those of one number
-  abbrev pub Heads : (word : ℕ) → Type 0
-  Heads word = bits 40 word ≡ bits 4 1 ++ bits 12 (length (t .kinds)) ++ bits 12 (length (t .setPlayers)) ++ bits 12 (t .rootWeight)
+  -- the bits of the header
+  abbrev header : List ℕ
+  header = bits 4 1 ++ bits 12 (length (t .kinds)) ++ bits 12 (length (t .setPlayers)) ++ bits 12 (t .rootWeight)
+
+  -- it fills five bytes
+  header-size : length header ≡ 8 * 5
+  header-size = simp (length-append, length-bits)
 
   -- the file in its three parts
-  game-parts : (word : ℕ) → Heads word → packed 5 (bits 40 word) ++ setBytes ++ nodeBytes ≡ gameBytes t
+  game-parts : packed 5 header ++ setBytes ++ nodeBytes ≡ gameBytes t
   unfolding gameBytes headerBits setBits setCount nodeCount
-  game-parts word e =
-      let header = bits 40 word in
+  game-parts =
       let entries = joinTo (length (t .setPlayers)) (setBits t) in
       let records = joinTo (length (t .kinds)) (nodeBits t) in
       let same : joinTo (length (t .kinds)) (nodeBits (nodePart t)) ≡ records = joinTo-cong (length (t .kinds)) (nodeBits (nodePart t)) (nodeBits t) (λ n l. sym (node-alone (nodePart t) n) ∙ node-alone t n) in
-      let head : length header ≡ 8 * 5 = length-bits 40 word in
-      let front : length (header ++ entries) ≡ 8 * (5 + length (t .setPlayers)) = length-append header entries ∙ omega (arith, head, length-joinTo 8 (length (t .setPlayers)) (setBits t) (λ h l. set-width t h)) in
-      rw (← e, pack-append (5 + length (t .setPlayers)) (header ++ entries) records front, pack-append 5 header entries head, pack-whole 5 header head, same)
+      let front : length (header ++ entries) ≡ 8 * (5 + length (t .setPlayers)) = length-append header entries ∙ omega (arith, header-size, length-joinTo 8 (length (t .setPlayers)) (setBits t) (λ h l. set-width t h)) in
+      rw (pack-append (5 + length (t .setPlayers)) (header ++ entries) records front, pack-append 5 header entries header-size, pack-whole 5 header header-size, same)
 
   -- the three parts put one after the other
-  pub game-put : (out : List ℕ) (word : ℕ) {headed entered after : List ℕ} → Heads word → headed ≡ placed 0 (packed 5 (bits 40 word)) out → entered ≡ placed 5 setBytes headed → after ≡ placed (5 + length (t .setPlayers)) nodeBytes entered → after ≡ placed 0 (gameBytes t) out
-  game-put out word e f g h =
-      let header = packed 5 (bits 40 word) in
-      let first : placed 5 setBytes (placed 0 header out) ≡ placed 0 (header ++ setBytes) out = rw (length-packed 5 (bits 40 word)) at (placed-twice 0 header setBytes out (omega arith)) in
-      let front : 0 + length (header ++ setBytes) ≡ 5 + length (t .setPlayers) = omega (arith, length-append header setBytes, length-packed 5 (bits 40 word), byte-count 5 1 (setBits sets) (set-width sets) (length (t .setPlayers))) in
-      let second : placed (5 + length (t .setPlayers)) nodeBytes (placed 0 (header ++ setBytes) out) ≡ placed 0 (header ++ setBytes ++ nodeBytes) out = rw front at (placed-twice 0 (header ++ setBytes) nodeBytes out (omega arith)) in
-      rw (h, g, f, first, second, game-parts word e)
+  pub game-put : (out : List ℕ) {headed entered after : List ℕ} → headed ≡ placed 0 (packed 5 header) out → entered ≡ placed 5 setBytes headed → after ≡ placed (5 + length (t .setPlayers)) nodeBytes entered → after ≡ placed 0 (gameBytes t) out
+  game-put out f g h =
+      let first : placed 5 setBytes (placed 0 (packed 5 header) out) ≡ placed 0 (packed 5 header ++ setBytes) out = rw (length-packed 5 header) at (placed-twice 0 (packed 5 header) setBytes out (omega arith)) in
+      let front : 0 + length (packed 5 header ++ setBytes) ≡ 5 + length (t .setPlayers) = omega (arith, length-append (packed 5 header) setBytes, length-packed 5 header, byte-count 5 1 (setBits sets) (set-width sets) (length (t .setPlayers))) in
+      let second : placed (5 + length (t .setPlayers)) nodeBytes (placed 0 (packed 5 header ++ setBytes) out) ≡ placed 0 (packed 5 header ++ setBytes ++ nodeBytes) out = rw front at (placed-twice 0 (packed 5 header ++ setBytes) nodeBytes out (omega arith)) in
+      rw (h, g, f, first, second, game-parts)
 
 module _ (t : GameFields) (out : List ℕ) where
   -- the answer, and the lent bytes afterwards

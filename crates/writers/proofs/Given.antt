@@ -8,10 +8,10 @@ use Rattle.algebra.specs.Bounded.{allTo}
 use Rattle.algebra.proofs.Tests.{true→T}
 use Rattle.model.specs.Writing.{GameFields, entry, setCount, nodeCount, sideBySide, numbersFit, gameFieldsFit}
 use Rattle.model.proofs.Decisions.{eqb-iff, and-iff}
-use Rattle.model.proofs.Fitting.{Lacks, kind-below, Fitting, game-fields-iff}
+use Rattle.model.proofs.Fitting.{zero-in-range, Lacks, kind-below, Fitting, game-fields-iff}
 use Rattle.writers.specs.GameWriter.{setLists, nodeLists, Beside, SetsFit, NodesFit}
 use Rattle.writers.proofs.Passes.{decides-same}
-use Rattle.writers.proofs.Words.{kindFitsAt}
+use Rattle.writers.proofs.Nodes.{kindFitsAt}
 
 module _ (t : GameFields) where
   -- lists side by side have one length
@@ -82,8 +82,8 @@ module _ (t : GameFields) where
     weights = (refl, λ i. omega arith);
     nodeSets = (refl, λ i. omega arith);
     chanceMoves = (refl, λ i. omega arith);
-    payoffs1 = (refl, λ i. omega arith);
-    payoffs2 = (refl, λ i. omega arith);
+    payoffs1 = (refl, λ i. zero-in-range 16);
+    payoffs2 = (refl, λ i. zero-in-range 16);
     kinds = λ n l. absurd (omega arith);
   }
 

@@ -1,5 +1,5 @@
 -- A loop that makes a test at each number below a bound, and stops where it fails.
-use Prim.Native.Nat.{ℕ, _*_, _+_, _^_, _≤_, _<_}
+use Prim.Native.Nat.{ℕ, _+_, _^_, _≤_, _<_}
 use mathlib.Core.Path.{_≡_, sym, _∙_}
 use mathlib.Core.Bool.{Bool, true, false}
 use mathlib.Core.List.{List}
@@ -9,13 +9,12 @@ use lib.Dec.{T, ltb}
 use lib.IntN.{ℤ, pos}
 use lib.ListN.{length, getD, List·getD-eq-default}
 use lib.Pow.{pow-pos}
-use lib.Signed.{mag}
 use Rattle.algebra.specs.Bounded.{allTo}
 use Rattle.algebra.proofs.Tests.{bool-same, true→T, T→true, false→not, not→false}
 use Rattle.algebra.proofs.Searches.{allTo-at, allTo-make}
-use Rattle.model.specs.Writing.{allFit, allFitSigned}
-use Rattle.model.proofs.Decisions.{Decides, ltb-iff, all-iff}
-use Rattle.model.proofs.Fitting.{Entries, all-fit-iff, all-in-range-iff}
+use Rattle.model.specs.Writing.{allFit, fitsSigned, allFitSigned}
+use Rattle.model.proofs.Decisions.{Decides, itself-iff, ltb-iff, all-iff}
+use Rattle.model.proofs.Fitting.{Entries, InRange, zero-in-range, all-fit-iff, all-in-range-iff}
 
 -- a test passes at each number below n, on the way to a bound
 pub record Passed (p : ℕ → Bool) (bound n : ℕ) : Type 0 where
@@ -64,11 +63,11 @@ fitsAt width l i = ltb (getD l i 0) (2 ^ width)
 
 -- an integer's
 abbrev pub inRangeAt : (width : ℕ) → List ℤ → ℕ → Bool
-inRangeAt width l i = ltb (2 * mag (getD l i (pos 0))) (2 ^ width)
+inRangeAt width l i = fitsSigned width (getD l i (pos 0))
 
 -- a test of every entry is a test at each place
 pub each-fits : (width : ℕ) (l : List ℕ) → allTo (length l) (fitsAt width l) ≡ allFit width l
 each-fits width l = decides-same (all-iff {n = length l} (λ i b. ltb-iff (getD l i 0) (2 ^ width))) (all-fit-iff width l) (everywhere (λ x. x < 2 ^ width) 0 l (pow-pos width)) (λ h i b. h i)
 
 pub each-in-range : (width : ℕ) (l : List ℤ) → allTo (length l) (inRangeAt width l) ≡ allFitSigned width l
-each-in-range width l = decides-same (all-iff {n = length l} (λ i b. ltb-iff (2 * mag (getD l i (pos 0))) (2 ^ width))) (all-in-range-iff width l) (everywhere (λ z. 2 * mag z < 2 ^ width) (pos 0) l (pow-pos width)) (λ h i b. h i)
+each-in-range width l = decides-same (all-iff {n = length l} (λ i b. itself-iff (inRangeAt width l i))) (all-in-range-iff width l) (everywhere (InRange width) (pos 0) l (zero-in-range width)) (λ h i b. h i)

@@ -1,12 +1,11 @@
--- The plan writer: its test of numbers, and its file as a header of one word with a run of weights.
+-- The plan writer: its test of numbers, and its file as a header with a run of weights.
 use Prim.Native.Nat.{ℕ, _+_, _*_, _/_, _^_, _<_}
-use mathlib.Core.Path.{_≡_, sym, ap, _∙_}
+use mathlib.Core.Path.{_≡_, sym}
 use mathlib.Core.Bool.{Bool, _&&_}
 use mathlib.Core.List.{List, _++_}
 use native.Mathlib.Omega.{arith}
-use lib.ListN.{length}
+use lib.ListN.{length, length-append}
 use lib.Dec.{ltb, leb}
-use lib.Pow.{pow-pos}
 use Rattle.algebra.specs.Arrays.{placed}
 use Rattle.algebra.proofs.Tests.{true→T}
 use Rattle.algebra.proofs.Arrays.{placed-twice}
@@ -14,7 +13,7 @@ use Rattle.model.specs.Bits.{bits, runBits, packed, pack}
 use Rattle.model.specs.Writing.{planBytes, allFit, planFieldsFit}
 use Rattle.model.specs.Calls.{PlanFields, afterCall, planWriterChecks}
 use Rattle.model.proofs.Bits.{length-bits, length-packed}
-use Rattle.model.proofs.Packing.{bits-join, pack-whole, pack-append}
+use Rattle.model.proofs.Packing.{pack-whole, pack-append}
 use Rattle.model.proofs.Fitting.{plan-fields-iff}
 use Rattle.model.proofs.PlanTrips.{length-plan}
 use Rattle.writers.specs.declared.Checked.{Checked}
@@ -22,8 +21,12 @@ use Rattle.writers.specs.declared.Checked.the-variants.{Fine, Broken}
 use Rattle.writers.specs.declared.WriteAnswer.{WriteAnswer}
 use Rattle.writers.specs.declared.WriteAnswer.the-variants.{Written, Refused}
 use Rattle.writers.specs.Answers.{checkedOf, writeAnswer}
-use Rattle.writers.specs.PlanWriter.{planWriterRefusal, headerWord}
+use Rattle.writers.specs.PlanWriter.{planWriterRefusal}
 use Rattle.writers.proofs.Refusals.{is-fine, misfit, short, written}
+
+-- the bits of the header
+abbrev headed : (d1 d2 : ℕ) → List ℕ
+headed d1 d2 = bits 4 1 ++ bits 12 d1 ++ bits 12 d2 ++ bits 4 0
 
 module _ (d1 d2 : ℕ) (weights : List ℕ) where
   -- the tests of the weights, of D2 and of D1, one after the other
@@ -31,29 +34,22 @@ module _ (d1 d2 : ℕ) (weights : List ℕ) where
   unfolding planFieldsFit allFit
   numbers-tested e f g = rw (g, f, e)
 
-  -- the header's bits are those of one number
-  header-bits : d1 < 2 ^ 12 → d2 < 2 ^ 12 → bits 4 1 ++ bits 12 d1 ++ bits 12 d2 ++ bits 4 0 ≡ bits 32 (headerWord d1 d2)
-  unfolding headerWord
-  header-bits l m =
-      sym
-      (bits-join 28 4 ((1 * 2 ^ 12 + d1) * 2 ^ 12 + d2) 0 (pow-pos 4)
-      ∙ ap (λ (x : List ℕ). x ++ bits 4 0) (bits-join 16 12 (1 * 2 ^ 12 + d1) d2 m ∙ ap (λ (x : List ℕ). x ++ bits 12 d2) (bits-join 4 12 1 d1 l)))
+  -- the header fills four bytes
+  header-size : length (headed d1 d2) ≡ 8 * 4
+  header-size = simp (length-append, length-bits)
 
-  -- the file: the header's word, then the weights
-  plan-parts : d1 < 2 ^ 12 → d2 < 2 ^ 12 → packed 4 (bits 32 (headerWord d1 d2)) ++ pack (runBits 12 weights) ≡ planBytes d1 d2 weights
+  -- the file: the header, then the weights
+  plan-parts : packed 4 (headed d1 d2) ++ pack (runBits 12 weights) ≡ planBytes d1 d2 weights
   unfolding planBytes
-  plan-parts l m =
-      let header = bits 32 (headerWord d1 d2) in
-      let size : length header ≡ 8 * 4 = length-bits 32 (headerWord d1 d2) in
-      rw (header-bits l m, pack-append 4 header (runBits 12 weights) size, pack-whole 4 header size)
+  plan-parts = rw (pack-append 4 (headed d1 d2) (runBits 12 weights) header-size, pack-whole 4 (headed d1 d2) header-size)
 
   -- the header put at the start, and the weights after it
-  pub plan-filled : (out : List ℕ) → d1 < 2 ^ 12 → d2 < 2 ^ 12 → {word : ℕ} {headed after : List ℕ} → word ≡ headerWord d1 d2 → headed ≡ placed 0 (packed 4 (bits 32 word)) out → after ≡ placed 4 (pack (runBits 12 weights)) headed → after ≡ placed 0 (planBytes d1 d2 weights) out
-  plan-filled out l m e f g =
-      let header = packed 4 (bits 32 (headerWord d1 d2)) in
+  pub plan-filled : (out : List ℕ) {front after : List ℕ} → front ≡ placed 0 (packed 4 (headed d1 d2)) out → after ≡ placed 4 (pack (runBits 12 weights)) front → after ≡ placed 0 (planBytes d1 d2 weights) out
+  plan-filled out f g =
+      let header = packed 4 (headed d1 d2) in
       let run = pack (runBits 12 weights) in
-      let twice : placed 4 run (placed 0 header out) ≡ placed 0 (header ++ run) out = rw (length-packed 4 (bits 32 (headerWord d1 d2))) at (placed-twice 0 header run out (omega arith)) in
-      rw (g, f, e, twice, plan-parts l m)
+      let twice : placed 4 run (placed 0 header out) ≡ placed 0 (header ++ run) out = rw (length-packed 4 (headed d1 d2)) at (placed-twice 0 header run out (omega arith)) in
+      rw (g, f, twice, plan-parts)
 
   -- numbers that passed the test fit their fields
   pub plan-fits : {a : Checked} → a ≡ checkedOf (planFieldsFit d1 d2 weights) → a ≡ Fine → (d1 < 2 ^ 12) × (d2 < 2 ^ 12)

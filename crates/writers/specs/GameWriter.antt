@@ -1,30 +1,14 @@
 -- What the game writer is given, node by node, and when it fits.
-use Prim.Native.Nat.{ℕ, _*_, _^_, _<_}
+use Prim.Native.Nat.{ℕ, _^_, _<_}
 use mathlib.Core.Path.{_≡_}
 use mathlib.Core.List.{List, [], _∷_}
+use lib.Dec.{T}
 use lib.IntN.{ℤ}
 use lib.ListN.{length}
-use lib.Signed.{mag}
 use Rattle.model.specs.Refusals.{firstFailing}
-use Rattle.model.specs.Writing.{GameFields, entry, entryZ}
+use Rattle.model.specs.Writing.{GameFields, gameFields, entry, entryZ, fitsSigned}
 use Rattle.model.specs.Calls.{gameWriterChecks}
 use Rattle.writers.specs.declared.records.NodeRecord.{NodeRecord}
-
--- D0 and the ten lists as one record
-abbrev pub gameFields : (rootWeight : ℕ) → (setPlayers setMoves kinds parents moves weights nodeSets chanceMoves : List ℕ) → (payoffs1 payoffs2 : List ℤ) → GameFields
-gameFields rootWeight setPlayers setMoves kinds parents moves weights nodeSets chanceMoves payoffs1 payoffs2 = record {
-  rootWeight = rootWeight;
-  setPlayers = setPlayers;
-  setMoves = setMoves;
-  kinds = kinds;
-  parents = parents;
-  moves = moves;
-  weights = weights;
-  nodeSets = nodeSets;
-  chanceMoves = chanceMoves;
-  payoffs1 = payoffs1;
-  payoffs2 = payoffs2;
-}
 
 -- the refusal of what is given, with a buffer of so many bytes: 0 is none
 abbrev pub gameWriterRefusal : GameFields → (room : ℕ) → ℕ
@@ -73,8 +57,8 @@ pub record NodeFits (x : NodeRecord) : Type 0 where
   pub weight : x .weight < 2 ^ 12
   pub set : x .set < 2 ^ 12
   pub moves : x .moves < 2 ^ 7
-  pub payoff1 : 2 * mag (x .payoff1) < 2 ^ 16
-  pub payoff2 : 2 * mag (x .payoff2) < 2 ^ 16
+  pub payoff1 : T (fitsSigned 16 (x .payoff1))
+  pub payoff2 : T (fitsSigned 16 (x .payoff2))
 
 -- the sets' lists are side by side and few, and their numbers fit
 pub record SetsFit (t : GameFields) : Type 0 where
@@ -83,7 +67,7 @@ pub record SetsFit (t : GameFields) : Type 0 where
   pub player : (h : ℕ) → entry (t .setPlayers) h < 2 ^ 1
   pub moves : (h : ℕ) → entry (t .setMoves) h < 2 ^ 7
 
--- so do those of every node
+-- the nodes' lists are side by side and few, and every node's numbers fit
 pub record NodesFit (t : GameFields) : Type 0 where
   pub beside : Beside t
   pub few : length (t .kinds) < 2 ^ 12

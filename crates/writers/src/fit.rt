@@ -1,9 +1,7 @@
 // Refusal 17: whether the numbers given to a writer fit their fields.
 ghost use mathlib.Core.Path.{_≡_};
-ghost use Prim.Native.Nat.{_*_, _^_, _<_};
-ghost use lib.Dec.{ltb};
-ghost use lib.Signed.{mag};
-ghost use Rattle.model.specs.Writing.{allFit, allFitSigned};
+ghost use Prim.Native.Nat.{_<_};
+ghost use Rattle.model.specs.Writing.{allFit, fitsSigned, allFitSigned};
 
 // Whether every number fits a field of `width` bits.
 pub fn all_fit(numbers: &[u64], width: usize) -> bool
@@ -24,7 +22,7 @@ pub fn all_fit(numbers: &[u64], width: usize) -> bool
 
 // Whether an integer fits 16 bits in two's complement.
 fn fits_signed(x: i64) -> bool
-    ensures { λ r. ⌜ r ≡ ltb (2 * mag x) (2 ^ 16) ⌝ }
+    ensures { λ r. ⌜ r ≡ fitsSigned 16 x ⌝ }
 {
     if x < -32768 { false } else { x <= 32767 }
 }

@@ -1,15 +1,15 @@
 // The game writer: refusals 17 and 18, then the header, the set entries and the node records.
 ghost use mathlib.Core.Path.{_≡_};
 ghost use mathlib.Core.Bool.{true};
-ghost use Prim.Native.Nat.{_+_, _*_, _≤_};
+ghost use Prim.Native.Nat.{_+_, _*_, _^_, _≤_, _<_};
 ghost use lib.ListN.{length};
 ghost use Rattle.algebra.specs.Arrays.{placed};
 ghost use Rattle.algebra.specs.Bounded.{joinTo};
 ghost use Rattle.model.specs.Bits.{pack};
-ghost use Rattle.model.specs.Writing.{setBits, nodeBits, gameBytes, gameFieldsFit};
+ghost use Rattle.model.specs.Writing.{setBits, nodeBits, gameBytes, gameFieldsFit, gameFields};
 ghost use Rattle.model.specs.Calls.{afterCall};
 ghost use Rattle.writers.specs.Answers.{writeAnswer};
-ghost use Rattle.writers.specs.GameWriter.{gameFields, setLists, nodeLists, SetsFit, NodesFit, gameWriterRefusal};
+ghost use Rattle.writers.specs.GameWriter.{setLists, nodeLists, SetsFit, NodesFit, gameWriterRefusal};
 use super::Checked;
 use super::WriteAnswer;
 use super::fields;
@@ -28,7 +28,7 @@ fn put_sets(set_players: &[u64], set_moves: &[u64], out: &mut [u8])
             player: set_players[h],
             moves: set_moves[h],
         };
-        bits::put_word(out, 5 + h, 1, entry.word());
+        entry.put(out, 5 + h);
         h += 1;
     }
 }
@@ -46,7 +46,7 @@ fn put_nodes(
     out: &mut [u8],
     from: usize,
 )
-    requires { ⌜ NodesFit (nodeLists (now kinds) (now parents) (now moves) (now weights) (now «node_sets») (now «chance_moves») (now payoffs1) (now payoffs2)) × (from + 8 * length (now kinds) ≤ length (now out)) ⌝ }
+    requires { ⌜ NodesFit (nodeLists (now kinds) (now parents) (now moves) (now weights) (now «node_sets») (now «chance_moves») (now payoffs1) (now payoffs2)) × (from < 2 ^ 13) × (from + 8 * length (now kinds) ≤ length (now out)) ⌝ }
     ensures { λ _. ⌜ now (out .exit) ≡ placed from (pack (joinTo (length (now (kinds .entry))) (nodeBits (nodeLists (now (kinds .entry)) (now (parents .entry)) (now (moves .entry)) (now (weights .entry)) (now («node_sets» .entry)) (now («chance_moves» .entry)) (now (payoffs1 .entry)) (now (payoffs2 .entry)))))) (now (out .entry)) ⌝ }
 {
     let mut n = 0;
@@ -62,7 +62,7 @@ fn put_nodes(
             payoffs2,
             n,
         );
-        bits::put_word(out, from + 8 * n, 8, node.word());
+        node.put(out, from + 8 * n);
         n += 1;
     }
 }
@@ -91,7 +91,7 @@ fn put_game(
         root_weight,
     };
     let nodes_at = 5 + set_players.len();
-    bits::put_word(out, 0, 5, header.word());
+    header.put(out);
     put_sets(set_players, set_moves, out);
     put_nodes(
         kinds,

@@ -1,14 +1,16 @@
 // The plan writer: refusals 17 and 18, then the header and all weights in file order.
 ghost use mathlib.Core.Path.{_≡_};
 ghost use mathlib.Core.Bool.{_&&_};
+ghost use mathlib.Core.List.{_++_};
 ghost use Prim.Native.Nat.{_+_, _*_, _/_, _^_, _≤_, _<_};
 ghost use lib.ListN.{length};
 ghost use lib.Dec.{ltb};
 ghost use Rattle.algebra.specs.Arrays.{placed};
+ghost use Rattle.model.specs.Bits.{bits, packed};
 ghost use Rattle.model.specs.Writing.{planBytes, planFieldsFit};
 ghost use Rattle.model.specs.Calls.{afterCall};
 ghost use Rattle.writers.specs.Answers.{checkedOf, writeAnswer};
-ghost use Rattle.writers.specs.PlanWriter.{planWriterRefusal, headerWord};
+ghost use Rattle.writers.specs.PlanWriter.{planWriterRefusal};
 use super::Checked;
 use super::WriteAnswer;
 use super::fit;
@@ -25,12 +27,12 @@ impl Header {
     // The first number that does not fit the 12 bits of a denominator.
     const LIMIT: u64 = 4096;
 
-    // Its 32 bits: edition (4), D1 (12), D2 (12), four zero bits.
-    fn word(self) -> u64
-        requires { ⌜ (self .d1 < 2 ^ 12) × (self .d2 < 2 ^ 12) ⌝ }
-        ensures { λ r. ⌜ r ≡ headerWord (self .d1) (self .d2) ⌝ }
+    // Its 4 bytes: edition (4 bits), D1 and D2 (12 each), four zero bits.
+    fn put(self, out: &mut [u8])
+        requires { ⌜ 4 ≤ length (now out) ⌝ }
+        ensures { λ _. ⌜ now (out .exit) ≡ placed 0 (packed 4 (bits 4 1 ++ bits 12 (self .d1) ++ bits 12 (self .d2) ++ bits 4 0)) (now (out .entry)) ⌝ }
     {
-        ((Header::EDITION * Header::LIMIT + self.d1) * Header::LIMIT + self.d2) * 16
+        writer::put_four(out, 0, 4, Header::EDITION, 12, self.d1, 12, self.d2, 4, 0);
     }
 }
 
@@ -60,7 +62,7 @@ fn fill(header: Header, weights: &[u64], out: &mut [u8])
     requires { ⌜ (header .d1 < 2 ^ 12) × (header .d2 < 2 ^ 12) × (4 + (12 * length (now weights) + 7) / 8 ≤ length (now out)) ⌝ }
     ensures { λ _. ⌜ now (out .exit) ≡ placed 0 (planBytes (header .d1) (header .d2) (now (weights .entry))) (now (out .entry)) ⌝ }
 {
-    bits::put_word(out, 0, 4, header.word());
+    header.put(out);
     bits::put_run(out, 4, weights, 12);
 }
 

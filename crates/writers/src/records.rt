@@ -1,13 +1,13 @@
-// The header, the set entries and the node records of a game file as words: nothing outside this file knows where a field stands.
+// The header, the set entries and the node records of a game file: nothing outside this file knows where a field stands.
 ghost use mathlib.Core.Path.{_≡_};
 ghost use mathlib.Core.Bool.{_&&_};
 ghost use mathlib.Core.List.{_++_};
-ghost use Prim.Native.Nat.{_+_, _*_, _^_, _<_};
-ghost use lib.Dec.{eqb};
+ghost use Prim.Native.Nat.{_+_, _*_, _^_, _≤_, _<_};
+ghost use lib.Dec.{T, eqb};
 ghost use lib.ListN.{length};
-ghost use lib.Signed.{mag};
-ghost use Rattle.model.specs.Bits.{bits, twosComplement};
-ghost use Rattle.model.specs.Writing.{isZero, kindFits, payloadBits, nodeBits};
+ghost use Rattle.algebra.specs.Arrays.{placed};
+ghost use Rattle.model.specs.Bits.{bits, packed, twosComplement};
+ghost use Rattle.model.specs.Writing.{fitsSigned, isZero, kindFits, payloadBits, nodeBits};
 ghost use Rattle.writers.specs.GameWriter.{nodeLists, nodeOf, alone, Beside, NodeFits};
 
 // The header of a game file: N, H and D0.
@@ -35,17 +35,9 @@ pub struct NodeRecord {
     pub payoff2: i64,
 }
 
-// A number, and `low` in `width` bits after it.
-fn join(high: u64, width: usize, low: u64) -> u64
-    requires { ⌜ (width < 64) × (high * 2 ^ width + low < 2 ^ 64) ⌝ }
-    ensures { λ r. ⌜ r ≡ high * 2 ^ width + low ⌝ }
-{
-    high * bits::power(width) + low
-}
-
 // An integer as two's complement of 16 bits.
 fn twos_complement(x: i64) -> u64
-    requires { ⌜ 2 * mag x < 2 ^ 16 ⌝ }
+    requires { ⌜ T (fitsSigned 16 x) ⌝ }
     ensures { λ r. ⌜ (r ≡ twosComplement 16 x) × (r < 2 ^ 16) ⌝ }
 {
     if x < 0 { (65536 + x) as u64 } else { x as u64 }
@@ -71,24 +63,33 @@ impl Header {
     // N, H and D0 are each below this.
     pub const LIMIT: u64 = 4096;
 
-    // The 40 bits of the header.
-    pub fn word(self) -> u64
-        requires { ⌜ (self .nodes < 2 ^ 12) × (self .sets < 2 ^ 12) × (self .«root_weight» < 2 ^ 12) ⌝ }
-        ensures { λ r. ⌜ bits 40 r ≡ bits 4 1 ++ bits 12 (self .nodes) ++ bits 12 (self .sets) ++ bits 12 (self .«root_weight») ⌝ }
+    // Its 5 bytes: edition (4 bits), N, H and D0 (12 each).
+    pub fn put(self, out: &mut [u8])
+        requires { ⌜ 5 ≤ length (now out) ⌝ }
+        ensures { λ _. ⌜ now (out .exit) ≡ placed 0 (packed 5 (bits 4 1 ++ bits 12 (self .nodes) ++ bits 12 (self .sets) ++ bits 12 (self .«root_weight»))) (now (out .entry)) ⌝ }
     {
-        let word = join(Header::EDITION, 12, self.nodes);
-        let word = join(word, 12, self.sets);
-        join(word, 12, self.root_weight)
+        writer::put_four(
+            out,
+            0,
+            4,
+            Header::EDITION,
+            12,
+            self.nodes,
+            12,
+            self.sets,
+            12,
+            self.root_weight,
+        );
     }
 }
 
 impl SetEntry {
-    // The 8 bits of the entry.
-    pub fn word(self) -> u64
-        requires { ⌜ (self .player < 2 ^ 1) × (self .moves < 2 ^ 7) ⌝ }
-        ensures { λ r. ⌜ bits 8 r ≡ bits 1 (self .player) ++ bits 7 (self .moves) ⌝ }
+    // Its byte, at `from`: the player (1 bit) and the number of moves (7).
+    pub fn put(self, out: &mut [u8], from: usize)
+        requires { ⌜ (8 * (from + 1) < 2 ^ 64) × (from + 1 ≤ length (now out)) ⌝ }
+        ensures { λ _. ⌜ now (out .exit) ≡ placed from (packed 1 (bits 1 (self .player) ++ bits 7 (self .moves))) (now (out .entry)) ⌝ }
     {
-        join(self.player, 7, self.moves)
+        writer::put_two(out, 8 * from, 1, self.player, 7, self.moves);
     }
 }
 
@@ -142,30 +143,39 @@ impl NodeRecord {
         false
     }
 
-    // The 32 bits of the payload, by the kind.
-    fn payload(self) -> u64
-        requires { ⌜ NodeFits self ⌝ }
-        ensures { λ r. ⌜ (bits 32 r ≡ payloadBits (alone self) (self .kind) 0) × (r < 2 ^ 32) ⌝ }
+    // The 4 bytes of the payload, from `from` on: by the kind, the payoffs (16 bits each), the set (12) or the number of moves (7); zero bits fill it.
+    fn put_payload(self, out: &mut [u8], from: usize)
+        requires { ⌜ NodeFits self × (8 * (from + 4) < 2 ^ 64) × (from + 4 ≤ length (now out)) ⌝ }
+        ensures { λ _. ⌜ now (out .exit) ≡ placed from (packed 4 (payloadBits (alone self) (self .kind) 0)) (now (out .entry)) ⌝ }
     {
         if self.kind == NodeRecord::LEAF {
             let first = twos_complement(self.payoff1);
             let second = twos_complement(self.payoff2);
-            return join(first, 16, second);
+            writer::put_two(out, 8 * from, 16, first, 16, second);
+        } else if self.kind == NodeRecord::DECISION {
+            writer::put_two(out, 8 * from, 12, self.set, 20, 0);
+        } else {
+            writer::put_two(out, 8 * from, 7, self.moves, 25, 0);
         }
-        if self.kind == NodeRecord::DECISION {
-            return join(self.set, 20, 0);
-        }
-        join(self.moves, 25, 0)
     }
 
-    // The 64 bits of the record.
-    pub fn word(self) -> u64
-        requires { ⌜ NodeFits self ⌝ }
-        ensures { λ r. ⌜ bits 64 r ≡ nodeBits (alone self) 0 ⌝ }
+    // Its 8 bytes, from `from` on: kind (2 bits), parent (12), place (6), weight (12), payload (32).
+    pub fn put(self, out: &mut [u8], from: usize)
+        requires { ⌜ NodeFits self × (8 * (from + 8) < 2 ^ 64) × (from + 8 ≤ length (now out)) ⌝ }
+        ensures { λ _. ⌜ now (out .exit) ≡ placed from (packed 8 (nodeBits (alone self) 0)) (now (out .entry)) ⌝ }
     {
-        let word = join(self.kind, 12, self.parent);
-        let word = join(word, 6, self.place);
-        let word = join(word, 12, self.weight);
-        join(word, 32, self.payload())
+        writer::put_four(
+            out,
+            8 * from,
+            2,
+            self.kind,
+            12,
+            self.parent,
+            6,
+            self.place,
+            12,
+            self.weight,
+        );
+        self.put_payload(out, from + 4);
     }
 }

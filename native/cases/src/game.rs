@@ -11,7 +11,6 @@ pub use order::{pairs, Pair};
 
 use crate::program::Program;
 use crate::text::list;
-use generator::edit::{put_bits, Field};
 use reference::Refusal;
 
 /// The file that names every case, one on each line.
@@ -20,8 +19,9 @@ const LIST: &str = "cases";
 /// The cases whose sets and nodes are looked up.
 const LOOKED_UP: [&str; 3] = ["00-study-game", "00-chance-game", "13-set-below-itself"];
 
-/// The cases whose fields are given: a game of 3 sets and 9 nodes, and a refused one.
-const FIELDS_OF: [&str; 2] = ["00-study-game", "13-set-below-itself"];
+/// The cases whose fields are given: a game of 3 sets and 9 nodes, a shorter one with
+/// chance nodes and the least and greatest payoffs, and a refused one.
+const FIELDS_OF: [&str; 3] = ["00-study-game", "00-no-sets", "13-set-below-itself"];
 
 /// A game file with the refusal that it is made for, 0 where it breaks no rule.
 pub struct Case {
@@ -82,11 +82,4 @@ fn made_for<const COUNT: usize>(
         file,
     };
     files.map(case).into()
-}
-
-/// The file with one field changed.
-fn changed(file: &[u8], field: Field, value: u64) -> Vec<u8> {
-    let mut file = file.to_vec();
-    put_bits(&mut file, field, value);
-    file
 }

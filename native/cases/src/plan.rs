@@ -9,7 +9,6 @@ pub use order::{pairs, Pair};
 
 use crate::program::Program;
 use crate::text::list;
-use generator::edit::{put_bits, Field};
 use generator::tables::{GameTables, PlanWeights};
 use reference::Refusal;
 
@@ -135,13 +134,6 @@ fn made_for<const COUNT: usize>(
         plan,
     };
     plans.map(case).into()
-}
-
-/// The file with one field changed.
-fn changed(file: &[u8], field: Field, value: u64) -> Vec<u8> {
-    let mut file = file.to_vec();
-    put_bits(&mut file, field, value);
-    file
 }
 
 /// The plan file of both players' weights by sequence number, D1 and D2 first.

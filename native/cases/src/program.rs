@@ -1,4 +1,4 @@
-//! What stands beside a test program's source: the files that it is run on and
+//! What stands beside a program's source: the files that it is run on and
 //! what it must write.
 
 use std::collections::BTreeMap;
@@ -25,6 +25,11 @@ impl Program {
         Program { name, files }
     }
 
+    /// The name of the program and of its crate.
+    pub fn name(&self) -> &'static str {
+        self.name
+    }
+
     /// The files as they are to be committed.
     pub fn files(&self) -> &Files {
         &self.files
@@ -32,7 +37,7 @@ impl Program {
 
     /// The files as they stand in the repository.
     pub fn committed(&self) -> io::Result<Files> {
-        let folder = self.folder();
+        let folder = folder(self.name);
         let mut paths = vec![PathBuf::from("stdout")];
         add_paths(&folder, Path::new("data"), &mut paths)?;
         let read = |path: PathBuf| Ok((path.clone(), fs::read(folder.join(path))?));
@@ -41,7 +46,7 @@ impl Program {
 
     /// Writes the files into the repository, in the place of those there.
     pub fn write(&self) -> io::Result<()> {
-        let folder = self.folder();
+        let folder = folder(self.name);
         let data = folder.join("data");
         if data.exists() {
             fs::remove_dir_all(&data)?;
@@ -55,11 +60,21 @@ impl Program {
         }
         Ok(())
     }
+}
 
-    fn folder(&self) -> PathBuf {
-        let crates = Path::new(env!("CARGO_MANIFEST_DIR")).join("../../crates");
-        crates.join(self.name)
-    }
+/// A committed file of a program.
+pub fn committed(name: &str, path: &str) -> io::Result<Vec<u8>> {
+    fs::read(folder(name).join(path))
+}
+
+/// A committed file of a program that is a text.
+pub fn committed_text(name: &str, path: &str) -> io::Result<String> {
+    fs::read_to_string(folder(name).join(path))
+}
+
+fn folder(name: &str) -> PathBuf {
+    let crates = Path::new(env!("CARGO_MANIFEST_DIR")).join("../../crates");
+    crates.join(name)
 }
 
 /// Adds the files at and below a path of the program's crate.

@@ -1,6 +1,7 @@
-//! The committed files of `try_game`, and what its cases are made for.
+//! What the cases of `try_game` are made for, and lines of its expected output.
 
-use cases::game::{all_cases, pairs, try_game};
+use cases::game::{all_cases, pairs};
+use cases::program;
 use reference::game::check_game;
 use std::collections::BTreeSet;
 
@@ -8,24 +9,8 @@ fn refusal(file: &[u8]) -> u8 {
     check_game(file).err().unwrap_or(0)
 }
 
-/// A committed file of the program.
 fn committed(path: &str) -> Vec<u8> {
-    let files = try_game().unwrap().committed().unwrap();
-    files
-        .get(path.as_ref() as &std::path::Path)
-        .unwrap()
-        .clone()
-}
-
-#[test]
-fn the_committed_files_are_those_made_here() {
-    let program = try_game().unwrap();
-    let committed = program.committed().unwrap();
-    let made = program.files();
-    assert!(made.keys().eq(committed.keys()));
-    for (path, bytes) in made {
-        assert!(bytes == &committed[path], "{}", path.display());
-    }
+    program::committed("try_game", path).unwrap()
 }
 
 #[test]
@@ -76,8 +61,8 @@ fn the_starred_files_have_document_01s_bytes() {
     assert_eq!(forgetful, [&header[..], &root, &below, &end].concat());
 }
 
-/// Worked by hand from document 01: the starred cases' answers, and the look-ups
-/// in its game.
+/// Worked by hand from document 01: the starred cases' answers, the look-ups in its
+/// game, and all fields of it and of a game without sets.
 #[test]
 fn the_expected_output_has_document_01s_answers() {
     let stdout = String::from_utf8(committed("stdout")).unwrap();
@@ -91,20 +76,30 @@ fn the_expected_output_has_document_01s_answers() {
     }
     let study = format!("look-ups in 00-study-game\n{STUDY_LOOK_UPS}look-ups in ");
     assert!(stdout.contains(&study));
-    for line in STUDY_FIELDS {
+    for line in FIELDS {
         assert!(lines.contains(&line), "{line}");
     }
 }
 
-const STUDY_FIELDS: [&str; 2] = [
+const FIELDS: [&str; 4] = [
     "fields: given 9 3 1 set-players 0 1 0 7 set-moves 2 2 2 7 \
      kinds 1 1 0 1 1 0 0 0 0 7 parents 0 0 0 1 1 3 3 4 4 7 moves 0 0 1 0 1 0 1 0 1 7 \
      weights 1 1 1 1 1 1 1 1 1 7 node-sets 0 1 0 2 2 0 0 0 0 7 \
-     chance-moves 0 0 0 0 0 0 0 0 0 7 payoffs1 0 0 + 0 0 + 0 + + + payoffs2 0 0 + 0 0 + + + + +",
+     chance-moves 0 0 0 0 0 0 0 0 0 7 payoffs1 0 0 3 0 0 2 0 5 6 7 payoffs2 0 0 3 0 0 2 3 6 1 7",
     "fields: refusal 18 set-players 7 7 7 7 set-moves 7 7 7 7 \
      kinds 7 7 7 7 7 7 7 7 7 7 parents 7 7 7 7 7 7 7 7 7 7 moves 7 7 7 7 7 7 7 7 7 7 \
      weights 7 7 7 7 7 7 7 7 7 7 node-sets 7 7 7 7 7 7 7 7 7 7 \
-     chance-moves 7 7 7 7 7 7 7 7 7 7 payoffs1 + + + + + + + + + + payoffs2 + + + + + + + +",
+     chance-moves 7 7 7 7 7 7 7 7 7 7 payoffs1 7 7 7 7 7 7 7 7 7 7 payoffs2 7 7 7 7 7 7 7 7",
+    "fields: given 5 0 7 set-players 7 7 7 7 set-moves 7 7 7 7 \
+     kinds 2 2 0 0 0 7 7 7 7 7 parents 0 0 1 0 1 7 7 7 7 7 moves 0 1 1 0 0 7 7 7 7 7 \
+     weights 7 6 1 1 5 7 7 7 7 7 node-sets 0 0 0 0 0 7 7 7 7 7 \
+     chance-moves 2 2 0 0 0 7 7 7 7 7 payoffs1 0 0 0 -32768 32767 7 7 7 7 7 \
+     payoffs2 0 0 -1 32767 -32768 7 7 7 7 7",
+    "fields: given 5 0 7 set-players 7 7 7 7 set-moves 7 7 7 7 \
+     kinds 2 2 0 0 0 7 7 7 7 7 parents 0 0 1 0 1 7 7 7 7 7 moves 0 1 1 0 0 7 7 7 7 7 \
+     weights 7 6 1 1 5 7 7 7 7 7 node-sets 0 0 0 0 0 7 7 7 7 7 \
+     chance-moves 2 2 0 0 0 7 7 7 7 7 payoffs1 0 0 0 -32768 32767 7 7 7 7 7 \
+     payoffs2 0 0 -1 32767 -32768 7 7 7",
 ];
 
 const STUDY_LOOK_UPS: &str = "set 0: player bit 0 moves 2

@@ -1,57 +1,23 @@
-//! The committed files of `try_plan`, and what its cases are made for.
+//! What the cases of `try_plan` are made for, and its expected output.
 
-use cases::plan::{all_cases, pairs, try_plan};
-use cases::program::Files;
+use cases::plan::pairs;
+use cases::program::{self, committed_text};
 use reference::deliver;
 use reference::game::{check_game, Player};
 use reference::plan::check_plan;
 use std::collections::BTreeSet;
-use std::path::Path;
 
 fn refusal(game: &[u8], plan: &[u8]) -> u8 {
     let answer = check_game(game).and_then(|game| check_plan(&game, plan).map(|_| ()));
     answer.err().unwrap_or(0)
 }
 
-/// The committed files of the program.
-fn committed() -> Files {
-    try_plan().unwrap().committed().unwrap()
+fn committed(path: &str) -> Vec<u8> {
+    program::committed("try_plan", &format!("data/{path}")).unwrap()
 }
 
-fn text(files: &Files, path: &str) -> String {
-    String::from_utf8(files[Path::new(path)].clone()).unwrap()
-}
-
-#[test]
-fn the_committed_files_are_those_made_here() {
-    let program = try_plan().unwrap();
-    let committed = committed();
-    let made = program.files();
-    assert!(made.keys().eq(committed.keys()));
-    for (path, bytes) in made {
-        assert!(bytes == &committed[path], "{}", path.display());
-    }
-}
-
-#[test]
-fn each_case_gets_the_refusal_that_it_is_made_for() {
-    for case in all_cases().unwrap() {
-        assert_eq!(
-            refusal(&case.game, &case.plan),
-            case.refusal,
-            "{}",
-            case.name()
-        );
-    }
-}
-
-#[test]
-fn each_refusal_has_a_case_and_no_name_stands_twice() {
-    let cases = all_cases().unwrap();
-    let refusals: BTreeSet<u8> = cases.iter().map(|case| case.refusal).collect();
-    assert!(refusals.into_iter().eq(0..=16));
-    let names: BTreeSet<String> = cases.iter().map(|case| case.name()).collect();
-    assert_eq!(names.len(), cases.len());
+fn stdout() -> String {
+    committed_text("try_plan", "stdout").unwrap()
 }
 
 #[test]
@@ -66,64 +32,64 @@ fn each_pair_of_neighbours_is_broken_at_once() {
     }
 }
 
-/// Every folder's two files stand in the list one after the other.
-#[test]
-fn the_list_names_every_file_in_order() {
-    let files = committed();
-    let list = text(&files, "data/cases");
-    let lines: Vec<&str> = list.lines().collect();
-    let cases = all_cases().unwrap();
-    assert_eq!(lines.len(), 2 * cases.len());
-    for (pair, case) in lines.chunks(2).zip(cases) {
-        assert_eq!(pair[0], case.name() + "/game.bin");
-        assert_eq!(pair[1], case.name() + "/plan.bin");
-        assert_eq!(files[&Path::new("data").join(pair[1])], case.plan);
-    }
-}
-
 /// What the program does with its files, by the reference.
 #[test]
 fn the_expected_output_follows_from_the_data() {
-    let files = committed();
-    let pairs = |list: &str| -> Vec<[String; 2]> {
-        let list = text(&files, list);
-        let lines: Vec<String> = list.lines().map(String::from).collect();
-        let pairs = lines.chunks(2);
-        pairs
-            .map(|pair| [pair[0].clone(), pair[1].clone()])
-            .collect()
-    };
-    let name = |path: &str| path.split('/').next().unwrap().to_string();
-    let read = |[game, plan]: &[String; 2], buffer: &mut [u64]| {
-        let [game, plan] = [game, plan].map(|path| &files[&Path::new("data").join(path)]);
-        match plan_fields(game, plan, buffer) {
-            Ok([d1, d2]) => format!("plan of {d1} {d2}"),
-            Err(refusal) => format!("refusal {refusal}"),
-        }
-    };
-    let mut stdout = String::new();
-    for pair in pairs("data/cases") {
-        let answer = read(&pair, &mut [7; 4_095]);
-        stdout += &format!("{}: {answer}\n", name(&pair[0]));
-    }
-    for pair in pairs("data/rooms") {
-        stdout += &format!("rooms of {}\n", name(&pair[0]));
-        for room in 0..=12 {
-            let mut buffer = vec![7; room];
-            let answer = read(&pair, &mut buffer);
-            let weights: String = buffer.iter().map(|weight| format!(" {weight}")).collect();
-            stdout += &format!("room {room}: {answer} weights{weights}\n");
-        }
-    }
-    assert_eq!(stdout, text(&files, "stdout"));
+    let checked = folders("cases")
+        .iter()
+        .map(|name| check_line(name))
+        .collect();
+    let rooms: String = folders("rooms")
+        .iter()
+        .map(|name| room_lines(name))
+        .collect();
+    assert_eq!([checked, rooms].concat(), stdout());
 }
 
-/// D1 and D2, with the weights in the buffer.
-fn plan_fields(game: &[u8], plan: &[u8], buffer: &mut [u64]) -> Result<[u64; 2], u8> {
+/// The folders whose two files a list names one after the other.
+fn folders(list: &str) -> Vec<String> {
+    let list = String::from_utf8(committed(list)).unwrap();
+    let plans = list
+        .lines()
+        .filter_map(|line| line.strip_suffix("/plan.bin"));
+    plans.map(String::from).collect()
+}
+
+fn check_line(name: &str) -> String {
+    let answer = answer(name, &mut [7; 4_095], |[d1, d2, _]| {
+        format!("plan of {d1} {d2}")
+    });
+    format!("{name}: {answer}\n")
+}
+
+fn room_lines(name: &str) -> String {
+    let mut lines = format!("rooms of {name}\n");
+    for room in 0..=12 {
+        let mut buffer = vec![7; room];
+        let answer = answer(name, &mut buffer, |[d1, d2, count]| {
+            format!("plan of {d1} {d2} count {count}")
+        });
+        let weights: String = buffer.iter().map(|weight| format!(" {weight}")).collect();
+        lines += &format!("room {room}: {answer} weights{weights}\n");
+    }
+    lines
+}
+
+fn answer(name: &str, buffer: &mut [u64], text: fn([u64; 3]) -> String) -> String {
+    let [game, plan] = ["game", "plan"].map(|file| committed(&format!("{name}/{file}.bin")));
+    match plan_fields(&game, &plan, buffer) {
+        Ok(fields) => text(fields),
+        Err(refusal) => format!("refusal {refusal}"),
+    }
+}
+
+/// D1, D2 and the number of weights, with the weights in the buffer.
+fn plan_fields(game: &[u8], plan: &[u8], buffer: &mut [u64]) -> Result<[u64; 3], u8> {
     let game = check_game(game)?;
     let plan = check_plan(&game, plan)?;
-    deliver(&plan.weights_in_file_order(), buffer)?;
-    Ok(Player::BOTH.map(|player| plan.denominator(player)))
+    let count = deliver(&plan.weights_in_file_order(), buffer)?;
+    let [d1, d2] = Player::BOTH.map(|player| plan.denominator(player));
+    Ok([d1, d2, count as u64])
 }
 
 /// The starred cases, as document 01 gives them.
@@ -132,18 +98,19 @@ fn the_starred_files_have_document_01s_bytes() {
     let m = [
         0x10, 0x03, 0x00, 0x30, 0x00, 0x30, 0x00, 0x00, 0x10, 0x02, 0x00, 0x10, 0x02,
     ];
-    let files = committed();
-    let file = |path: &str| &files[&Path::new("data").join(path)];
-    assert_eq!(file("00-study-game-m/plan.bin")[..], m);
-    assert_eq!(file("00-study-game-m/game.bin").len(), 80);
-    assert_eq!(file("00-one-leaf/game.bin").len(), 13);
-    assert_eq!(file("00-one-leaf/plan.bin")[..], [0x10, 0x01, 0x00, 0x10]);
+    assert_eq!(committed("00-study-game-m/plan.bin")[..], m);
+    assert_eq!(committed("00-study-game-m/game.bin").len(), 80);
+    assert_eq!(committed("00-one-leaf/game.bin").len(), 13);
+    assert_eq!(
+        committed("00-one-leaf/plan.bin")[..],
+        [0x10, 0x01, 0x00, 0x10]
+    );
 }
 
 /// Worked by hand: plans Q, M, F and the fourth one, and the buffers of plan M.
 #[test]
 fn the_expected_output_has_document_01s_answers() {
-    let stdout = text(&committed(), "stdout");
+    let stdout = stdout();
     let lines: Vec<&str> = stdout.lines().collect();
     for line in [
         "00-study-game-q: plan of 1 1",
@@ -165,6 +132,9 @@ fn the_expected_output_has_document_01s_answers() {
     let rooms = &lines[start.unwrap() + 1..];
     assert_eq!(rooms[0], "room 0: refusal 18 weights");
     assert_eq!(rooms[5], "room 5: refusal 18 weights 7 7 7 7 7");
-    assert_eq!(rooms[6], "room 6: plan of 3 3 weights 3 0 1 2 1 2");
-    assert_eq!(rooms[8], "room 8: plan of 3 3 weights 3 0 1 2 1 2 7 7");
+    assert_eq!(rooms[6], "room 6: plan of 3 3 count 6 weights 3 0 1 2 1 2");
+    assert_eq!(
+        rooms[8],
+        "room 8: plan of 3 3 count 6 weights 3 0 1 2 1 2 7 7"
+    );
 }

@@ -1,32 +1,15 @@
-//! The committed files of `try_report`, and what its cases are made for.
+//! The expected output of `try_report`.
 
-use cases::program::{Files, Program};
-use cases::report::{all_cases, try_report};
-use reference::game::check_game;
-use reference::plan::check_plan;
-use std::collections::BTreeSet;
-use std::path::Path;
-use std::sync::OnceLock;
+use cases::program::committed_text;
+use cases::report::all_cases;
 
-/// The program, made once for all tests.
-fn program() -> &'static Program {
-    static PROGRAM: OnceLock<Program> = OnceLock::new();
-    PROGRAM.get_or_init(|| try_report().unwrap())
-}
-
-/// The committed files of the program.
-fn committed() -> &'static Files {
-    static FILES: OnceLock<Files> = OnceLock::new();
-    FILES.get_or_init(|| program().committed().unwrap())
-}
-
-fn text(files: &Files, path: &str) -> String {
-    String::from_utf8(files[Path::new(path)].clone()).unwrap()
+fn stdout() -> String {
+    committed_text("try_report", "stdout").unwrap()
 }
 
 /// What is expected for a case, without its heading.
 fn listing(name: &str) -> String {
-    let stdout = text(committed(), "stdout");
+    let stdout = stdout();
     let heading = format!("== {name}\n");
     let (_, rest) = stdout.split_once(&heading).unwrap();
     let lines = rest.split_inclusive('\n');
@@ -35,41 +18,12 @@ fn listing(name: &str) -> String {
 }
 
 #[test]
-fn the_committed_files_are_those_made_here() {
-    let (made, committed) = (program().files(), committed());
-    assert!(made.keys().eq(committed.keys()));
-    for (path, bytes) in made {
-        assert!(bytes == &committed[path], "{}", path.display());
+fn each_refused_pair_has_its_line() {
+    let cases = all_cases().unwrap().into_iter();
+    for case in cases.filter(|case| case.refusal > 0) {
+        let line = format!("refusal {}\n", case.refusal);
+        assert_eq!(listing(&case.name()), line, "{}", case.name());
     }
-}
-
-#[test]
-fn each_case_gets_the_refusal_that_it_is_made_for() {
-    let mut refusals = BTreeSet::new();
-    for case in all_cases().unwrap() {
-        let game = check_game(&case.game);
-        let answer = game.and_then(|game| check_plan(&game, &case.plan).map(|_| ()));
-        assert_eq!(answer.err().unwrap_or(0), case.refusal, "{}", case.name());
-        if case.refusal > 0 {
-            let line = format!("refusal {}\n", case.refusal);
-            assert_eq!(listing(&case.name()), line, "{}", case.name());
-        }
-        refusals.insert(case.refusal);
-    }
-    assert!(refusals.into_iter().eq(0..=16));
-}
-
-#[test]
-fn no_name_stands_twice_and_the_list_names_every_case() {
-    let cases = all_cases().unwrap();
-    let names: BTreeSet<String> = cases.iter().map(|case| case.name()).collect();
-    assert_eq!(names.len(), cases.len());
-    let list = text(committed(), "data/cases");
-    let lines = list.lines();
-    let folders = cases
-        .iter()
-        .flat_map(|case| ["game", "plan"].map(|file| format!("{}/{file}.bin", case.name())));
-    assert!(lines.eq(folders));
 }
 
 /// As document 01 prints it.
@@ -86,115 +40,90 @@ set 2 move 0
     assert_eq!(listing("00-study-game-f"), wanted);
 }
 
-/// Worked by hand: value 1, value 2, best 1, best 2 and the verdict.
+/// Worked by hand: value 1, value 2, best 1 and best 2 of pairs that are accepted.
+const ACCEPTED: [(&str, &str); 15] = [
+    ("study-game-q", "3.000 3.000 3.000 3.000"),
+    ("study-game-m", "4.000 2.666 4.000 2.666"),
+    ("one-leaf", "-1.000 1.000 -1.000 1.000"),
+    ("value-minus-1-of-2000", "0.000 0.000 0.000 0.000"),
+    ("value-minus-1-of-1001", "0.000 0.000 0.000 0.000"),
+    ("value-minus-1-of-1000", "-0.001 0.001 -0.001 0.001"),
+    ("value-minus-1-of-999", "-0.001 0.001 -0.001 0.001"),
+    ("value-2-of-1001", "0.001 -0.001 0.001 -0.001"),
+    ("value-2-of-1000", "0.002 -0.002 0.002 -0.002"),
+    ("value-1999-of-2000", "0.999 -0.999 0.999 -0.999"),
+    ("value-2001-of-2000", "1.000 -1.000 1.000 -1.000"),
+    ("value-1-of-100", "0.010 -0.010 0.010 -0.010"),
+    (
+        "value-12345-and-678-thousandths",
+        "12345.678 -12345.678 12345.678 -12345.678",
+    ),
+    (
+        "lowest-and-highest-payoff",
+        "-32768.000 32767.000 -32768.000 32767.000",
+    ),
+    ("kuhn-poker", "-0.055 0.055 -0.055 0.055"),
+];
+
+/// The same of pairs that are not, with the deviation.
+const DEVIATIONS: [(&str, &str, &str); 7] = [
+    (
+        "gain-of-65535",
+        "-32768.000 0.000 32767.000 0.000",
+        "deviation player 1 gain 65535.000\nset 0 move 1\n",
+    ),
+    (
+        "gain-of-65535-by-player-2",
+        "32767.000 -32768.000 32767.000 32767.000",
+        "deviation player 2 gain 65535.000\nset 1 move 1\n",
+    ),
+    (
+        "gain-of-1-of-1000",
+        "0.999 0.000 1.000 0.000",
+        "deviation player 1 gain 0.001\nset 0 move 0\n",
+    ),
+    (
+        "gain-of-1-of-1001",
+        "0.999 0.000 1.000 0.000",
+        "deviation player 1 gain 0.000\nset 0 move 0\n",
+    ),
+    (
+        "smallest-gain",
+        "0.000 0.000 0.000 0.000",
+        "deviation player 1 gain 0.000\nset 1 move 0\n",
+    ),
+    (
+        "player-2-around-player-1",
+        "0.000 -4.000 0.000 2.000",
+        "deviation player 2 gain 6.000\nset 0 move 0\nset 2 move 1\n",
+    ),
+    (
+        "both-gain-player-2-more",
+        "0.000 0.000 0.500 2.500",
+        "deviation player 1 gain 0.500\nset 0 move 1\n",
+    ),
+];
+
+fn check_listing(name: &str, amounts: &str, verdict: &str) {
+    let headings = ["value 1", "value 2", "best 1", "best 2"];
+    let amounts = headings.iter().zip(amounts.split(' '));
+    let lines: String = amounts
+        .map(|(of, amount)| format!("{of} {amount}\n"))
+        .collect();
+    assert_eq!(listing(&format!("00-{name}")), lines + verdict, "{name}");
+}
+
 #[test]
-fn the_expected_output_has_these_amounts() {
-    let accepted = "accepted\n";
-    for (name, amounts, verdict) in [
-        (
-            "study-game-q",
-            ["3.000", "3.000", "3.000", "3.000"],
-            accepted,
-        ),
-        (
-            "study-game-m",
-            ["4.000", "2.666", "4.000", "2.666"],
-            accepted,
-        ),
-        ("one-leaf", ["-1.000", "1.000", "-1.000", "1.000"], accepted),
-        ("value-minus-1-of-2000", ["0.000"; 4], accepted),
-        ("value-minus-1-of-1001", ["0.000"; 4], accepted),
-        (
-            "value-minus-1-of-1000",
-            ["-0.001", "0.001", "-0.001", "0.001"],
-            accepted,
-        ),
-        (
-            "value-minus-1-of-999",
-            ["-0.001", "0.001", "-0.001", "0.001"],
-            accepted,
-        ),
-        (
-            "value-2-of-1001",
-            ["0.001", "-0.001", "0.001", "-0.001"],
-            accepted,
-        ),
-        (
-            "value-2-of-1000",
-            ["0.002", "-0.002", "0.002", "-0.002"],
-            accepted,
-        ),
-        (
-            "value-1999-of-2000",
-            ["0.999", "-0.999", "0.999", "-0.999"],
-            accepted,
-        ),
-        (
-            "value-2001-of-2000",
-            ["1.000", "-1.000", "1.000", "-1.000"],
-            accepted,
-        ),
-        (
-            "value-1-of-100",
-            ["0.010", "-0.010", "0.010", "-0.010"],
-            accepted,
-        ),
-        (
-            "value-12345-and-678-thousandths",
-            ["12345.678", "-12345.678", "12345.678", "-12345.678"],
-            accepted,
-        ),
-        (
-            "lowest-and-highest-payoff",
-            ["-32768.000", "32767.000", "-32768.000", "32767.000"],
-            accepted,
-        ),
-        (
-            "gain-of-65535",
-            ["-32768.000", "0.000", "32767.000", "0.000"],
-            "deviation player 1 gain 65535.000\nset 0 move 1\n",
-        ),
-        (
-            "gain-of-65535-by-player-2",
-            ["32767.000", "-32768.000", "32767.000", "32767.000"],
-            "deviation player 2 gain 65535.000\nset 1 move 1\n",
-        ),
-        (
-            "gain-of-1-of-1000",
-            ["0.999", "0.000", "1.000", "0.000"],
-            "deviation player 1 gain 0.001\nset 0 move 0\n",
-        ),
-        (
-            "gain-of-1-of-1001",
-            ["0.999", "0.000", "1.000", "0.000"],
-            "deviation player 1 gain 0.000\nset 0 move 0\n",
-        ),
-        (
-            "smallest-gain",
-            ["0.000"; 4],
-            "deviation player 1 gain 0.000\nset 1 move 0\n",
-        ),
-        (
-            "player-2-around-player-1",
-            ["0.000", "-4.000", "0.000", "2.000"],
-            "deviation player 2 gain 6.000\nset 0 move 0\nset 2 move 1\n",
-        ),
-        (
-            "both-gain-player-2-more",
-            ["0.000", "0.000", "0.500", "2.500"],
-            "deviation player 1 gain 0.500\nset 0 move 1\n",
-        ),
-        (
-            "kuhn-poker",
-            ["-0.055", "0.055", "-0.055", "0.055"],
-            accepted,
-        ),
-    ] {
-        let [value1, value2, best1, best2] = amounts;
-        let wanted = format!(
-            "value 1 {value1}\nvalue 2 {value2}\nbest 1 {best1}\nbest 2 {best2}\n{verdict}"
-        );
-        assert_eq!(listing(&format!("00-{name}")), wanted, "{name}");
+fn accepted_pairs_have_these_amounts() {
+    for (name, amounts) in ACCEPTED {
+        check_listing(name, amounts, "accepted\n");
+    }
+}
+
+#[test]
+fn deviations_have_these_amounts() {
+    for (name, amounts, deviation) in DEVIATIONS {
+        check_listing(name, amounts, deviation);
     }
 }
 
@@ -218,7 +147,7 @@ fn check(bytes: impl Iterator<Item = u8>) -> u32 {
 
 #[test]
 fn the_rooms_are_those_around_the_length_of_each_text() {
-    let stdout = text(committed(), "stdout");
+    let stdout = stdout();
     let (_, rooms) = stdout.split_once("rooms of 00-study-game-f\n").unwrap();
     let (of_f, rest) = rooms.split_once("rooms of 00-one-leaf\n").unwrap();
     let (of_leaf, _) = rest.split_once("line of ").unwrap();
@@ -257,5 +186,5 @@ line of 18: refusal 18
 line of 255: refusal 255
 line of 18446744073709551615: refusal 18446744073709551615
 ";
-    assert!(text(committed(), "stdout").ends_with(wanted));
+    assert!(stdout().ends_with(wanted));
 }

@@ -1,10 +1,9 @@
-//! The committed files of `try_writers`, and what its cases are made for.
+//! What the cases of `try_writers` are made for, and lines of its expected output.
 
-use cases::program::Files;
-use cases::writers::{game_cases, plan_cases, try_writers, Case};
+use cases::program::{committed, committed_text};
+use cases::writers::{game_cases, plan_cases, Case};
 use reference::writer::{write_game, write_plan, Fields};
 use std::collections::BTreeSet;
-use std::path::Path;
 
 fn all_cases() -> Vec<Case> {
     let mut cases = game_cases();
@@ -12,24 +11,17 @@ fn all_cases() -> Vec<Case> {
     cases
 }
 
-/// The committed files of the program.
-fn committed() -> Files {
-    try_writers().unwrap().committed().unwrap()
-}
-
 fn stdout() -> String {
-    String::from_utf8(committed()[Path::new("stdout")].clone()).unwrap()
+    committed_text("try_writers", "stdout").unwrap()
 }
 
-#[test]
-fn the_committed_files_are_those_made_here() {
-    let program = try_writers().unwrap();
-    let committed = committed();
-    let made = program.files();
-    assert!(made.keys().eq(committed.keys()));
-    for (path, bytes) in made {
-        assert!(bytes == &committed[path], "{}", path.display());
-    }
+/// The words of a case's committed file.
+fn words(name: &str) -> Vec<u64> {
+    let bytes = committed("try_writers", &format!("data/{name}")).unwrap();
+    let words = bytes.chunks(8);
+    words
+        .map(|word| u64::from_be_bytes(word.try_into().unwrap()))
+        .collect()
 }
 
 #[test]
@@ -56,47 +48,45 @@ fn no_name_stands_twice() {
 
 #[test]
 fn every_word_has_its_place() {
-    let files = committed();
-    let file = |name: &str| &files[&Path::new("data").join(name)];
     for case in game_cases() {
-        assert_eq!(file(&case.name()).len(), 8 * (2 + 10 * 17));
+        assert_eq!(words(&case.name()).len(), 2 + 10 * 17);
     }
     for case in plan_cases() {
-        assert_eq!(file(&case.name()).len(), 8 * (3 + 17));
+        assert_eq!(words(&case.name()).len(), 3 + 17);
     }
-    let word = |place: usize| {
-        let file = file("00-study-game");
-        u64::from_be_bytes(file[8 * place..8 * place + 8].try_into().unwrap())
-    };
+    let study = words("00-study-game");
     let payoffs2 = 2 + 9 * 17;
-    assert_eq!([0, 1, 2, 3, 4, 5].map(word), [80, 1, 3, 0, 1, 0]);
-    assert_eq!(word(payoffs2), 9);
-    assert_eq!(word(payoffs2 + 1 + 7), 6);
+    assert_eq!(study[..6], [80, 1, 3, 0, 1, 0]);
+    assert_eq!(study[payoffs2], 9);
+    assert_eq!(study[payoffs2 + 1 + 7], 6);
 }
 
 /// What the program does with its files, by the reference writers.
 #[test]
 fn the_expected_output_follows_from_the_data() {
-    let files = committed();
-    let mut lines = String::new();
-    for (list, write) in [("games", write_a_game as Write), ("plans", write_a_plan)] {
-        let names = String::from_utf8(files[&Path::new("data").join(list)].clone()).unwrap();
-        for name in names.lines() {
-            let words: Vec<u64> = files[&Path::new("data").join(name)]
-                .chunks(8)
-                .map(|bytes| u64::from_be_bytes(bytes.try_into().unwrap()))
-                .collect();
-            let mut buffer = vec![0xa5; words[0] as usize];
-            let answer = match write(&words, &mut buffer) {
-                Ok(length) => format!("written {length}"),
-                Err(refusal) => format!("refusal {refusal}"),
-            };
-            let bytes: String = buffer.iter().map(|byte| format!(" {byte:02x}")).collect();
-            lines += &format!("{name}: {answer} buffer{bytes}\n");
-        }
-    }
+    let lines = written_lines("games", write_a_game) + &written_lines("plans", write_a_plan);
     assert!(stdout().starts_with(&lines));
     assert_eq!(stdout()[lines.len()..].lines().count(), 8);
+}
+
+/// A line for each case of a list.
+fn written_lines(list: &str, write: Write) -> String {
+    let names = committed_text("try_writers", &format!("data/{list}")).unwrap();
+    names
+        .lines()
+        .map(|name| written_line(name, write))
+        .collect()
+}
+
+fn written_line(name: &str, write: Write) -> String {
+    let words = words(name);
+    let mut buffer = vec![0xa5; words[0] as usize];
+    let answer = match write(&words, &mut buffer) {
+        Ok(length) => format!("written {length}"),
+        Err(refusal) => format!("refusal {refusal}"),
+    };
+    let bytes: String = buffer.iter().map(|byte| format!(" {byte:02x}")).collect();
+    format!("{name}: {answer} buffer{bytes}\n")
 }
 
 type Write = fn(&[u64], &mut [u8]) -> Result<usize, u8>;

@@ -11,9 +11,19 @@ pub struct TableBuffers {
     pub rows: u64,
 }
 
+impl TableBuffers {
+    pub fn with_room(room: usize) -> TableBuffers {
+        TableBuffers {
+            sequences: [vec![0; room], vec![0; room]],
+            sums: [vec![0; room], vec![0; room]],
+            rows: 0,
+        }
+    }
+}
+
 /// Both players' values over D0 × D1 × D2, their best values over D0 × the other's D, and
 /// D0, D1 and D2.
-#[derive(Clone, Copy, Debug, PartialEq, Eq)]
+#[derive(Clone, Copy, Debug, Default, PartialEq, Eq)]
 pub struct Values {
     pub values: [i64; 2],
     pub bests: [i64; 2],

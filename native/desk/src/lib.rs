@@ -65,11 +65,30 @@ pub struct PlanBuffers {
     pub weights: Vec<u64>,
 }
 
+impl PlanBuffers {
+    pub fn with_room(room: usize) -> PlanBuffers {
+        PlanBuffers {
+            d1: 0,
+            d2: 0,
+            weights: vec![0; room],
+        }
+    }
+}
+
 /// What is lent for a file or a text: a buffer, and a number for its length.
 #[derive(Clone, Debug, PartialEq, Eq)]
 pub struct Output {
     pub bytes: Vec<u8>,
     pub length: u64,
+}
+
+impl Output {
+    pub fn with_room(room: usize) -> Output {
+        Output {
+            bytes: vec![0; room],
+            length: 0,
+        }
+    }
 }
 
 fn answer(number: u64) -> Result<(), Refusal> {

@@ -54,7 +54,7 @@ impl Reader for Word {
     }
 }
 
-const LIMIT: usize = 4095;
+const LIMIT: usize = reference::limits::MOST_ENTRIES;
 
 #[derive(Clone, Copy)]
 struct Node {
@@ -245,7 +245,7 @@ impl Frame<'_> {
 
     fn well_formed<R: Reader>(&self, n: usize) -> bool {
         let node = self.node::<R>(n);
-        node.kind != 3 && node.padding == 0 && node.payoffs.len() == 2
+        node.kind != 3 && node.padding == 0
     }
 
     fn tree<R: Reader>(&self) -> Result<(), Refusal> {

@@ -6,8 +6,9 @@ use generator::games::random_game;
 use generator::plans::random_plan;
 use generator::rng::Rng;
 use generator::shape::{random_count, Growth, Payoffs, Shape};
+use generator::tables::GameTables;
+use reference::limits::MOST_ENTRIES;
 
-const FULL: usize = 4_095;
 const HALF: usize = 2_047;
 
 /// As many files of each kind and size.
@@ -16,6 +17,17 @@ const FILES: usize = 6;
 pub struct Pair {
     pub game: Vec<u8>,
     pub plan: Vec<u8>,
+}
+
+impl Pair {
+    /// A game with a random plan.
+    pub fn draw(rng: &mut Rng, tables: &GameTables) -> Result<Pair, Refusal> {
+        let game = tables.bytes()?;
+        let accepted = reference::game::check_game(&game)?;
+        let denominators = [random_count(rng), random_count(rng)];
+        let plan = random_plan(rng, &accepted, denominators).bytes()?;
+        Ok(Pair { game, plan })
+    }
 }
 
 /// Pairs alike in size and kind.
@@ -34,20 +46,13 @@ impl Sample {
         let pairs: Result<Vec<Pair>, Refusal> = (0..count)
             .map(|_| {
                 let shape = shape(rng);
-                pair_of(rng, &shape)
+                let tables = random_game(rng, &shape);
+                Pair::draw(rng, &tables)
             })
             .collect();
         let name = format!("{count} {name}");
         pairs.map(|pairs| Sample { name, pairs })
     }
-}
-
-fn pair_of(rng: &mut Rng, shape: &Shape) -> Result<Pair, Refusal> {
-    let game = random_game(rng, shape).bytes()?;
-    let accepted = reference::game::check_game(&game)?;
-    let denominators = [random_count(rng), random_count(rng)];
-    let plan = random_plan(rng, &accepted, denominators).bytes()?;
-    Ok(Pair { game, plan })
 }
 
 /// Short paths and sets of many moves.
@@ -98,7 +103,7 @@ pub fn samples() -> Result<Vec<Sample>, Refusal> {
     ];
     let mut samples = Vec::new();
     for (kind, shape) in kinds {
-        for nodes in [FULL, HALF] {
+        for nodes in [MOST_ENTRIES, HALF] {
             let name = format!("{kind}, {nodes} nodes");
             let sized = |rng: &mut Rng| Shape {
                 nodes,

@@ -14,6 +14,18 @@ pub struct VerdictBuffers {
     pub moves: Vec<u64>,
 }
 
+impl VerdictBuffers {
+    pub fn with_room(room: usize) -> VerdictBuffers {
+        VerdictBuffers {
+            player: 0,
+            gain: 0,
+            base: 0,
+            count: 0,
+            moves: vec![0; room],
+        }
+    }
+}
+
 /// The verdict on a plan pair: 1 to 16, then 18.
 pub fn verdict(game: &[u8], plan: &[u8], buffers: &mut VerdictBuffers) -> Result<(), Refusal> {
     let number = unsafe {

@@ -5,7 +5,7 @@ use desk::drawn::draw;
 use desk::program::{printed, Folder};
 use generator::named::{plan_m, study_game};
 use generator::rng::Rng;
-use reference::game::{check_game, Player};
+use reference::game::check_game;
 use reference::plan::check_plan;
 use reference::verdict::{verdict, Verdict};
 use reference::Refusal;
@@ -50,8 +50,7 @@ fn judged(game: &[u8], plan: &[u8]) -> Result<String, Refusal> {
     let Verdict::Deviation(shown) = verdict(&plan) else {
         return Ok("accepted\n".to_string());
     };
-    let [d1, d2] = Player::BOTH.map(|player| plan.denominator(player));
-    let base = game.root_weight() * d1 * d2;
+    let base = plan.value_base();
     let player = shown.player.index() + 1;
     let moves = shown.moves.iter().map(|taken| format!(" {}", taken.number));
     let moves: String = moves.collect();

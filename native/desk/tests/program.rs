@@ -131,7 +131,7 @@ fn reads_any_file() -> bool {
 }
 
 fn shut(path: &Path) {
-    fs::set_permissions(path, Permissions::from_mode(0)).unwrap();
+    fs::set_permissions(path, Permissions::from_mode(0o000)).unwrap();
 }
 
 /// Runs a copy of the program as a user who may not read any file.

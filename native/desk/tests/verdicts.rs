@@ -41,15 +41,9 @@ fn patterned(length: usize) -> VerdictBuffers {
     }
 }
 
-/// D0 × D1 × D2.
-fn base_of(plan: &Plan) -> u64 {
-    let [d1, d2] = Player::BOTH.map(|player| plan.denominator(player));
-    plan.game().root_weight() * d1 * d2
-}
-
 /// What a verdict gives, its moves alone in the buffer.
 fn given(plan: &Plan, verdict: &Verdict) -> VerdictBuffers {
-    let base = base_of(plan);
+    let base = plan.value_base();
     match verdict {
         Verdict::Accepted => VerdictBuffers {
             player: 0,
@@ -356,22 +350,38 @@ fn the_study_game_has_document_01s_verdicts() {
     assert_eq!(judged(plan_f(), 1), Err(18));
 }
 
+/// Compares with buffers of several lengths, and gives the refusal, or 0.
+fn compare_files(file: &[u8], plan: &[u8]) -> usize {
+    let game = check_game(file);
+    let wanted = game.as_ref().map_err(|&refusal| refusal).and_then(|game| {
+        let plan = check_plan(game, plan)?;
+        Ok(given(&plan, &reference::verdict::verdict(&plan)))
+    });
+    compare_plain(file, plan, &wanted);
+    for room in [0, 1, 5_000] {
+        compare_room(file, plan, &wanted, room);
+    }
+    wanted.err().unwrap_or(0).into()
+}
+
+/// Pairs of files made for each refusal out of a plan that fits, and some damaged at random.
+fn damaged_pairs(rng: &mut Rng, file: &[u8], plan: &Plan, bytes: &[u8]) -> Vec<[Vec<u8>; 2]> {
+    let games = (1..=13).filter_map(|refusal| aim_at_game(rng, plan.game(), refusal));
+    let with_plan_or_none = |game: Vec<u8>| [[game.clone(), bytes.to_vec()], [game, Vec::new()]];
+    let mut pairs: Vec<[Vec<u8>; 2]> = games.flat_map(with_plan_or_none).collect();
+    let plans = (14..=16).filter_map(|refusal| aim_at_plan(rng, plan, refusal));
+    pairs.extend(plans.map(|plan| [file.to_vec(), plan]));
+    for _ in 0..4 {
+        pairs.push([file.to_vec(), random_damage(rng, bytes)]);
+        pairs.push([random_damage(rng, file), bytes.to_vec()]);
+    }
+    pairs
+}
+
 #[test]
 fn refused_files_get_their_number_and_touch_nothing() {
     let mut rng = Rng::new(161);
     let mut met = [0; 17];
-    let mut compare = |file: &[u8], plan: &[u8]| {
-        let game = check_game(file);
-        let wanted = game.as_ref().map_err(|&refusal| refusal).and_then(|game| {
-            let plan = check_plan(game, plan)?;
-            Ok(given(&plan, &reference::verdict::verdict(&plan)))
-        });
-        compare_plain(file, plan, &wanted);
-        for room in [0, 1, 5_000] {
-            compare_room(file, plan, &wanted, room);
-        }
-        met[wanted.err().unwrap_or(0) as usize] += 1;
-    };
     for _ in 0..200 {
         let shape = Shape::random(&mut rng, 100, 10);
         let (file, game) = accepted(&random_game(&mut rng, &shape));
@@ -379,20 +389,8 @@ fn refused_files_get_their_number_and_touch_nothing() {
         let pair = random_plan(&mut rng, &game, denominators);
         let bytes = pair.bytes().expect("a plan that fits");
         let plan = check_plan(&game, &bytes).expect("a plan that fits");
-        for refusal in 1..=13 {
-            if let Some(damaged) = aim_at_game(&mut rng, &game, refusal) {
-                compare(&damaged, &bytes);
-                compare(&damaged, &[]);
-            }
-        }
-        for refusal in 14..=16 {
-            if let Some(damaged) = aim_at_plan(&mut rng, &plan, refusal) {
-                compare(&file, &damaged);
-            }
-        }
-        for _ in 0..4 {
-            compare(&file, &random_damage(&mut rng, &bytes));
-            compare(&random_damage(&mut rng, &file), &bytes);
+        for [game, plan] in damaged_pairs(&mut rng, &file, &plan, &bytes) {
+            met[compare_files(&game, &plan)] += 1;
         }
     }
     assert!(met.iter().all(|&count| count > 40), "{met:?}");

@@ -39,8 +39,7 @@ fn judge<T>(example: &str, said: impl Fn(&Plan) -> T) -> T {
 
 /// D0 × D1 × D2.
 fn base(plan: &Plan) -> i128 {
-    let [d1, d2] = Player::BOTH.map(|player| i128::from(plan.denominator(player)));
-    i128::from(plan.game().root_weight()) * d1 * d2
+    i128::from(plan.value_base())
 }
 
 #[test]

@@ -78,3 +78,10 @@ pub fn put_bits(file: &mut [u8], field: Field, value: u64) {
         }
     }
 }
+
+/// The file with one field changed.
+pub fn changed(file: &[u8], field: Field, value: u64) -> Vec<u8> {
+    let mut file = file.to_vec();
+    put_bits(&mut file, field, value);
+    file
+}

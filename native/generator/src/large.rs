@@ -2,9 +2,9 @@
 
 use crate::tables::{GameTables, Place};
 use reference::game::Player;
+use reference::limits;
 
-const MOST_SETS: usize = 4_095;
-const LONGEST_PATH: u64 = 255;
+const LONGEST_PATH: u64 = limits::LONGEST_PATH as u64;
 const COMB_MOVES: u64 = 16;
 
 /// 4,095 nodes and D0 = 4,095: chance deals one of 46 cards, player 1 sees which
@@ -51,7 +51,7 @@ pub fn most_sets() -> GameTables {
 /// longer.
 pub fn most_bytes() -> GameTables {
     let mut tables = most_sets();
-    while tables.fields.players.len() < MOST_SETS {
+    while tables.fields.players.len() < limits::MOST_ENTRIES {
         tables.add_set(Player::Two, 64);
     }
     tables

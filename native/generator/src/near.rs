@@ -107,16 +107,10 @@ struct Shift<'g> {
 impl<'g> Shift<'g> {
     fn new(plan: &Plan<'g>, player: Player) -> Self {
         let game = plan.game();
-        let mut followers = vec![Vec::new(); game.sequence_count(player)];
-        for set in game.sets_of(player) {
-            if let Ok(leading) = game.leading_sequence_number(set) {
-                followers[leading].push(set);
-            }
-        }
         Shift {
             game,
             weights: plan.weights(player).to_vec(),
-            followers,
+            followers: game.followers(player),
         }
     }
 

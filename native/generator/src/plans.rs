@@ -3,6 +3,7 @@
 use crate::rng::Rng;
 use crate::tables::PlanWeights;
 use reference::game::{Game, Move, Player};
+use std::collections::BTreeMap;
 
 /// A random plan pair with the given D1 and D2.
 pub fn random_plan(rng: &mut Rng, game: &Game, denominators: [u64; 2]) -> PlanWeights {
@@ -19,7 +20,7 @@ pub fn random_plan(rng: &mut Rng, game: &Game, denominators: [u64; 2]) -> PlanWe
 pub fn random_pure_plan(rng: &mut Rng, game: &Game) -> PlanWeights {
     let weights = Player::BOTH.map(|player| {
         realize(game, player, 1, |_, weight, moves| {
-            pure_split(rng, weight, moves)
+            pure_split(rng.below(moves), weight, moves)
         })
     });
     PlanWeights { weights }
@@ -38,10 +39,9 @@ pub fn even_plan(game: &Game, denominators: [u64; 2]) -> PlanWeights {
 
 /// The weights of a pure strategy, given as one move for each of the sets.
 pub fn pure_weights(game: &Game, player: Player, strategy: &[Move]) -> Vec<u64> {
+    let taken: BTreeMap<usize, usize> = strategy.iter().map(|own| (own.set, own.number)).collect();
     realize(game, player, 1, |set, weight, moves| {
-        let taken = |number| strategy.contains(&Move { set, number });
-        let share = |number| if taken(number) { weight } else { 0 };
-        (0..moves).map(share).collect()
+        pure_split(taken[&set], weight, moves)
     })
 }
 
@@ -77,14 +77,13 @@ fn sets_from_the_root(game: &Game, player: Player) -> Vec<usize> {
 
 fn random_split(rng: &mut Rng, weight: u64, moves: usize) -> Vec<u64> {
     match rng.below(4) {
-        0 => pure_split(rng, weight, moves),
+        0 => pure_split(rng.below(moves), weight, moves),
         1 => even_split(weight, moves),
         _ => rng.shares(weight, moves, 0),
     }
 }
 
-fn pure_split(rng: &mut Rng, weight: u64, moves: usize) -> Vec<u64> {
-    let taken = rng.below(moves);
+fn pure_split(taken: usize, weight: u64, moves: usize) -> Vec<u64> {
     let share = |number| if number == taken { weight } else { 0 };
     (0..moves).map(share).collect()
 }

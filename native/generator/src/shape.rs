@@ -1,9 +1,7 @@
 //! What random games are to look like.
 
 use crate::rng::Rng;
-
-pub const MOST_NODES: usize = 4_095;
-pub const MOST_MOVES: usize = 64;
+use reference::limits::{MOST_ENTRIES, MOST_MOVES};
 
 /// Which leaf is turned into an inner node next.
 #[derive(Clone, Copy, Debug, PartialEq, Eq)]
@@ -60,7 +58,7 @@ impl Shape {
         };
         let growths = [Growth::Scattered, Growth::Deep, Growth::Level];
         Shape {
-            nodes: rng.between(1, most_nodes.clamp(1, MOST_NODES) as u64) as usize,
+            nodes: rng.between(1, most_nodes.clamp(1, MOST_ENTRIES) as u64) as usize,
             least_moves: least_moves as usize,
             most_moves: most_moves as usize,
             chance_percent: rng.below(5) * 15,
@@ -88,7 +86,7 @@ impl Shape {
     /// A shape with many paths of 255 moves.
     pub fn deep(rng: &mut Rng) -> Shape {
         Shape {
-            nodes: rng.between(600, MOST_NODES as u64) as usize,
+            nodes: rng.between(600, MOST_ENTRIES as u64) as usize,
             least_moves: 1,
             most_moves: 3,
             growth: Growth::Deep,
@@ -101,7 +99,7 @@ impl Shape {
     pub fn full(rng: &mut Rng) -> Shape {
         let most_moves = rng.between(2, MOST_MOVES as u64);
         Shape {
-            nodes: MOST_NODES,
+            nodes: MOST_ENTRIES,
             least_moves: rng.between(1, most_moves) as usize,
             most_moves: most_moves as usize,
             growth: Growth::Scattered,

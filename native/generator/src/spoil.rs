@@ -4,9 +4,8 @@ use crate::edit::{plan_weight, put_bits, Field, D1, D2, EDITION, PLAN_ZEROS};
 use crate::rng::Rng;
 use crate::tables::PlanWeights;
 use reference::game::{Game, Move, Player};
+use reference::limits::LARGEST;
 use reference::plan::Plan;
-
-const LARGEST: u64 = 4_095;
 
 /// 14: a byte more or less, the header alone or cut, lengths by another filling, and
 /// the weights in two bytes each.

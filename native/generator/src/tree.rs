@@ -1,10 +1,9 @@
 //! Random game trees, before their decisions are put into sets.
 
 use crate::rng::Rng;
-use crate::shape::{Growth, Shape, MOST_MOVES, MOST_NODES};
+use crate::shape::{Growth, Shape};
 use reference::game::Player;
-
-const LONGEST_PATH: usize = 255;
+use reference::limits::{LONGEST_PATH, MOST_ENTRIES, MOST_MOVES};
 
 #[derive(Clone, Copy)]
 pub(crate) enum DraftKind {
@@ -30,7 +29,7 @@ pub(crate) struct Tree {
 
 impl Tree {
     pub fn grow(rng: &mut Rng, shape: &Shape) -> Tree {
-        let most_nodes = shape.nodes.clamp(1, MOST_NODES);
+        let most_nodes = shape.nodes.clamp(1, MOST_ENTRIES);
         let mut tree = Tree {
             nodes: Vec::new(),
             open: Vec::new(),

@@ -1,6 +1,6 @@
 //! Small games by brute force: every pure strategy, summed over the leaves.
 
-use crate::form::value_count;
+use crate::form::gain_count;
 use crate::game::{Game, Leaf, Move, Player};
 use crate::plan::Plan;
 use crate::verdict::{Deviation, Verdict};
@@ -60,9 +60,8 @@ pub fn worthiest_moves(plan: &Plan, player: Player, limit: usize) -> Option<Vec<
 /// The verdict by brute force, or nothing where a player has too many strategies.
 pub fn verdict(plan: &Plan, limit: usize) -> Option<Verdict> {
     for player in Player::BOTH {
-        let own = i128::from(plan.denominator(player));
         let best = best_earnings(plan, player, limit)?;
-        let gain = best * own - value_count(plan, player);
+        let gain = gain_count(plan, player, best);
         if gain > 0 {
             let moves = worthiest_moves(plan, player, limit)?;
             return Some(Verdict::Deviation(Deviation {
@@ -110,7 +109,7 @@ impl Meeting {
 fn meetings(plan: &Plan, player: Player) -> Vec<Meeting> {
     let game = plan.game();
     let other = player.other();
-    let meeting = |leaf: Leaf| {
+    let meeting = |leaf: &Leaf| {
         let against = plan.weights(other)[leaf.sequences[other.index()]];
         let payoff = leaf.payoffs[player.index()];
         Some(Meeting {
@@ -118,7 +117,7 @@ fn meetings(plan: &Plan, player: Player) -> Vec<Meeting> {
             earned: i128::from(leaf.weight) * i128::from(against) * i128::from(payoff),
         })
     };
-    game.leaves().into_iter().filter_map(meeting).collect()
+    game.leaves().iter().filter_map(meeting).collect()
 }
 
 /// What those leaves earn whose own moves are all moves of the strategy.

@@ -44,7 +44,7 @@ pub fn payoff_table(game: &Game) -> Vec<Row> {
 
 /// The player's value, over D0 × D1 × D2, summed over the leaves.
 pub fn value_count(plan: &Plan, player: Player) -> i128 {
-    let leaves = plan.game().leaves().into_iter();
+    let leaves = plan.game().leaves().iter();
     leaves
         .map(|leaf| {
             i128::from(leaf.weight)
@@ -55,7 +55,13 @@ pub fn value_count(plan: &Plan, player: Player) -> i128 {
         .sum()
 }
 
-/// The same value from the payoff table.
+/// What a player gains by earning `best`, counted over D0 × the other's D, in the
+/// place of his value, over D0 × D1 × D2.
+pub fn gain_count(plan: &Plan, player: Player, best: i128) -> i128 {
+    best * i128::from(plan.denominator(player)) - value_count(plan, player)
+}
+
+/// The player's value from the payoff table.
 pub fn table_value_count(plan: &Plan, player: Player) -> i128 {
     let rows = payoff_table(plan.game()).into_iter();
     rows.map(|row| {
@@ -91,18 +97,11 @@ struct Search<'g> {
 impl<'g> Search<'g> {
     fn new(plan: &Plan<'g>, player: Player) -> Self {
         let game = plan.game();
-        let count = game.sequence_count(player);
-        let mut followers = vec![Vec::new(); count];
-        for set in game.sets_of(player) {
-            if let Ok(leading) = game.leading_sequence_number(set) {
-                followers[leading].push(set);
-            }
-        }
         Search {
             game,
             earned: earned_at_sequences(plan, player),
-            followers,
-            worths: vec![0; count],
+            followers: game.followers(player),
+            worths: vec![0; game.sequence_count(player)],
             moves: Vec::new(),
         }
     }

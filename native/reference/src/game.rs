@@ -78,17 +78,29 @@ pub struct Game {
     nodes: Vec<Node>,
     /// The sequence number of each set's move 0.
     first_sequences: Vec<usize>,
+    /// Each set's first node, if it has one.
+    first_nodes: Vec<Option<usize>>,
+    /// Empty until every check holds: only then do the walks end.
+    leaves: Vec<Leaf>,
 }
 
 impl Game {
     pub(crate) fn new(root_weight: u64, sets: Vec<InfoSet>, nodes: Vec<Node>) -> Self {
-        let first_sequences = number_sequences(&sets);
         Game {
             root_weight,
+            first_sequences: number_sequences(&sets),
+            first_nodes: find_first_nodes(sets.len(), &nodes),
             sets,
             nodes,
-            first_sequences,
+            leaves: Vec::new(),
         }
+    }
+
+    /// The game with its leaves stored, once every check holds.
+    pub(crate) fn with_leaves(self) -> Self {
+        let nodes = 0..self.nodes.len();
+        let leaves = nodes.filter_map(|node| self.leaf(node)).collect();
+        Game { leaves, ..self }
     }
 
     /// The root chance weight D0.
@@ -124,7 +136,7 @@ impl Game {
     /// The own sequence that leads to a set; 17 where there is no such set.
     pub fn leading_sequence(&self, set: usize) -> Result<Vec<Move>, Refusal> {
         let owner = self.sets.get(set).ok_or(17)?.player;
-        let member = self.first_node(set).ok_or(17)?;
+        let member = self.first_nodes[set].ok_or(17)?;
         self.own_sequence(owner, member)
     }
 
@@ -155,11 +167,20 @@ impl Game {
         self.sequence_number(&self.leading_sequence(set)?)
     }
 
+    /// The player's sets that each of his sequences leads to, by its number.
+    pub fn followers(&self, player: Player) -> Vec<Vec<usize>> {
+        let mut followers = vec![Vec::new(); self.sequence_count(player)];
+        for set in self.sets_of(player) {
+            if let Ok(leading) = self.leading_sequence_number(set) {
+                followers[leading].push(set);
+            }
+        }
+        followers
+    }
+
     /// The leaves in node order.
-    pub fn leaves(&self) -> Vec<Leaf> {
-        (0..self.nodes.len())
-            .filter_map(|node| self.leaf(node))
-            .collect()
+    pub fn leaves(&self) -> &[Leaf] {
+        &self.leaves
     }
 
     fn leaf(&self, node: usize) -> Option<Leaf> {
@@ -189,11 +210,6 @@ impl Game {
         }
     }
 
-    fn first_node(&self, set: usize) -> Option<usize> {
-        let here = Kind::Decision { set };
-        self.nodes.iter().position(|node| node.kind == here)
-    }
-
     /// Collects the player's moves from a node up to the root and turns the
     /// list round. Parents must be smaller than their children.
     fn walk(&self, player: Player, node: usize) -> Vec<Move> {
@@ -221,7 +237,7 @@ impl Game {
     }
 
     /// The number of moves at a node, 0 at a leaf.
-    fn move_count(&self, node: usize) -> usize {
+    pub fn move_count(&self, node: usize) -> usize {
         match self.nodes[node].kind {
             Kind::Leaf { .. } => 0,
             Kind::Decision { set } => self.sets[set].moves,
@@ -239,6 +255,20 @@ fn number_sequences(sets: &[InfoSet]) -> Vec<usize> {
         let counter = &mut next[set.player.index()];
         first.push(*counter);
         *counter += set.moves;
+    }
+    first
+}
+
+/// For each set the first of its nodes, if it has one.
+fn find_first_nodes(sets: usize, nodes: &[Node]) -> Vec<Option<usize>> {
+    let mut first = vec![None; sets];
+    for (number, node) in nodes.iter().enumerate() {
+        match node.kind {
+            Kind::Decision { set } if set < sets => {
+                first[set].get_or_insert(number);
+            }
+            _ => {}
+        }
     }
     first
 }

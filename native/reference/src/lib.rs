@@ -5,6 +5,7 @@ pub mod bits;
 pub mod brute;
 pub mod form;
 pub mod game;
+pub mod limits;
 pub mod plan;
 pub mod report;
 pub mod verdict;

@@ -31,6 +31,12 @@ impl<'g> Plan<'g> {
         self.weights(player)[0]
     }
 
+    /// D0 × D1 × D2, which values and gains are counted over.
+    pub fn value_base(&self) -> u64 {
+        let [d1, d2] = Player::BOTH.map(|player| self.denominator(player));
+        self.game.root_weight() * d1 * d2
+    }
+
     /// All move weights as one list, as the file holds them.
     pub fn weights_in_file_order(&self) -> Vec<u64> {
         let moves = Player::BOTH.map(|player| &self.weights(player)[1..]);

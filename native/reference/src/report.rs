@@ -24,7 +24,7 @@ fn lines(game_file: &[u8], plan_file: &[u8]) -> Result<Vec<String>, Refusal> {
     let plan = check_plan(&game, plan_file)?;
     let mut lines = Vec::new();
     for player in Player::BOTH {
-        let value = amount(value_count(&plan, player), full_base(&plan));
+        let value = amount(value_count(&plan, player), plan.value_base());
         lines.push(format!("value {} {value}", name(player)));
     }
     for player in Player::BOTH {
@@ -41,7 +41,7 @@ fn lines(game_file: &[u8], plan_file: &[u8]) -> Result<Vec<String>, Refusal> {
 
 fn deviation_lines(plan: &Plan, deviation: &Deviation) -> Vec<String> {
     let player = name(deviation.player);
-    let gain = amount(deviation.gain, full_base(plan));
+    let gain = amount(deviation.gain, plan.value_base());
     let mut lines = vec![format!("deviation player {player} gain {gain}")];
     for choice in &deviation.moves {
         lines.push(format!("set {} move {}", choice.set, choice.number));
@@ -53,21 +53,15 @@ fn name(player: Player) -> usize {
     player.index() + 1
 }
 
-/// D0 × D1 × D2.
-fn full_base(plan: &Plan) -> u128 {
-    base_against(plan, Player::One) * u128::from(plan.denominator(Player::One))
-}
-
 /// D0 × the other's D.
-fn base_against(plan: &Plan, player: Player) -> u128 {
-    let other = plan.denominator(player.other());
-    u128::from(plan.game().root_weight()) * u128::from(other)
+fn base_against(plan: &Plan, player: Player) -> u64 {
+    plan.game().root_weight() * plan.denominator(player.other())
 }
 
 /// `count` over `base` in thousandths cut towards zero, with a sign only where
 /// a shown digit is not 0.
-fn amount(count: i128, base: u128) -> String {
-    let thousandths = count.unsigned_abs() * 1_000 / base;
+fn amount(count: i128, base: u64) -> String {
+    let thousandths = count.unsigned_abs() * 1_000 / u128::from(base);
     let sign = if count < 0 && thousandths > 0 {
         "-"
     } else {

@@ -1,9 +1,8 @@
 //! The verdict on a plan pair.
 
-use crate::form::{best_response, value_count};
+use crate::form::{best_response, gain_count};
 use crate::game::{Move, Player};
 use crate::plan::Plan;
-use crate::{deliver, Refusal};
 
 #[derive(Clone, Debug, PartialEq, Eq)]
 pub enum Verdict {
@@ -21,23 +20,11 @@ pub struct Deviation {
     pub moves: Vec<Move>,
 }
 
-impl Verdict {
-    /// Writes the shown strategy to the front of `buffer` and gives its length,
-    /// or 18. An accepted pair shows none and needs no room.
-    pub fn show(&self, buffer: &mut [Move]) -> Result<usize, Refusal> {
-        match self {
-            Verdict::Accepted => Ok(0),
-            Verdict::Deviation(deviation) => deliver(&deviation.moves, buffer),
-        }
-    }
-}
-
 /// Accepted, or the deviation of the first player who can gain.
 pub fn verdict(plan: &Plan) -> Verdict {
     let mut deviations = Player::BOTH.iter().filter_map(|&player| {
         let best = best_response(plan, player);
-        let own = i128::from(plan.denominator(player));
-        let gain = best.count() * own - value_count(plan, player);
+        let gain = gain_count(plan, player, best.count());
         (gain > 0).then_some(Deviation {
             player,
             gain,

@@ -2,10 +2,10 @@
 
 use crate::bits::{fits, to_twos_complement, BitWriter};
 use crate::game::{Game, Kind};
+use crate::limits::MOST_ENTRIES;
 use crate::{deliver, require, Refusal};
 
 const EDITION: u64 = 1;
-const MOST_ENTRIES: usize = 4_095;
 
 /// The tables of a game as lists side by side, one entry for each set or node.
 /// A number that a node's kind lacks is given as 0.

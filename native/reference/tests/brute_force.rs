@@ -5,7 +5,7 @@ use generator::near::pairs_near;
 use generator::plans::{pure_weights, random_plan};
 use generator::rng::Rng;
 use reference::brute;
-use reference::form::{best_response, value_count};
+use reference::form::{best_response, gain_count, value_count};
 use reference::game::{check_game, Game, Kind, Move, Player};
 use reference::plan::{check_plan, Plan};
 use reference::verdict::{verdict, Verdict};
@@ -52,10 +52,8 @@ fn count_verdict(tally: &mut Tally, plan: &Plan) {
         Verdict::Accepted => tally.accepted += 1,
         Verdict::Deviation(shown) => tally.deviations[shown.player.index()] += 1,
     }
-    let gains = Player::BOTH.map(|player| {
-        let own = i128::from(plan.denominator(player));
-        best_response(plan, player).count() * own > value_count(plan, player)
-    });
+    let gains = Player::BOTH
+        .map(|player| gain_count(plan, player, best_response(plan, player).count()) > 0);
     tally.both_gain += usize::from(gains == [true, true]);
 }
 

@@ -3,7 +3,6 @@
 use generator::aim::{aim_at_game, aim_at_plan};
 use generator::damage::random_damage;
 use generator::games::random_game;
-use generator::named::{plan_m, study_game};
 use generator::plans::random_plan;
 use generator::rng::Rng;
 use generator::shape::Shape;
@@ -26,6 +25,23 @@ fn check_answer(file: &[u8]) -> u8 {
             assert!((1..=13).contains(&refusal));
             refusal
         }
+    }
+}
+
+/// The report of any two files is the first refusal of the game, then of the
+/// plan, or begins with a value.
+fn check_report(game_file: &[u8], plan_file: &[u8]) {
+    let text = report(game_file, plan_file);
+    match refusal_of(game_file, plan_file) {
+        Some(refusal) => assert_eq!(text, format!("refusal {refusal}\n")),
+        None => assert!(text.starts_with("value 1 "), "{text}"),
+    }
+}
+
+fn refusal_of(game_file: &[u8], plan_file: &[u8]) -> Option<u8> {
+    match check_game(game_file) {
+        Ok(game) => check_plan(&game, plan_file).err(),
+        Err(refusal) => Some(refusal),
     }
 }
 
@@ -82,7 +98,7 @@ fn files_damaged_at_random_are_answered() {
         for _ in 0..10 {
             let damaged = random_damage(&mut rng, &file);
             met[check_answer(&damaged) as usize] += 1;
-            report(&damaged, &random_damage(&mut rng, &file));
+            check_report(&damaged, &random_damage(&mut rng, &file));
         }
     }
     for (answer, &count) in met.iter().enumerate() {
@@ -103,27 +119,5 @@ fn random_bytes_are_answered() {
             file[3] = (((length - 5) % 8) as u8) << 4;
             check_answer(&file);
         }
-    }
-}
-
-#[test]
-fn every_single_bit_of_the_study_files_may_flip() {
-    let game_file = study_game().bytes().unwrap();
-    let plan_file = plan_m().bytes().unwrap();
-    for place in 0..game_file.len() * 8 {
-        let mut damaged = game_file.clone();
-        damaged[place / 8] ^= 0x80 >> (place % 8);
-        check_answer(&damaged);
-        report(&damaged, &plan_file);
-    }
-    let game = check_game(&game_file).unwrap();
-    for place in 0..plan_file.len() * 8 {
-        let mut damaged = plan_file.clone();
-        damaged[place / 8] ^= 0x80 >> (place % 8);
-        let expected = match place {
-            0..=3 | 28..=31 => 15,
-            _ => 16,
-        };
-        assert_eq!(check_plan(&game, &damaged).err(), Some(expected));
     }
 }

@@ -227,7 +227,7 @@ fn nodes_with_unlike_own_sequences_get_13() {
     assert!(check_game(&tables.bytes().unwrap()).is_ok());
 }
 
-/// In player 2's hands the late set would tell l from r.
+/// Were the late set player 2's, he would forget whether he played l or r.
 #[test]
 fn another_owner_can_break_perfect_recall() {
     assert_eq!(study_refusal(set_player(2), 1), 13);

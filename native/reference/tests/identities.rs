@@ -33,21 +33,16 @@ fn for_each_plan(seed: u64, check: impl Fn(&Plan)) {
     }
 }
 
-fn base(plan: &Plan) -> i128 {
-    let [d1, d2] = Player::BOTH.map(|player| i128::from(plan.denominator(player)));
-    i128::from(plan.game().root_weight()) * d1 * d2
-}
-
 #[test]
 fn the_flow_into_the_leaves_is_whole() {
     for_each_plan(81, |plan| {
-        let flow = |leaf: Leaf| {
+        let flow = |leaf: &Leaf| {
             i128::from(leaf.weight)
                 * i128::from(plan.weights(Player::One)[leaf.sequences[0]])
                 * i128::from(plan.weights(Player::Two)[leaf.sequences[1]])
         };
-        let sum: i128 = plan.game().leaves().into_iter().map(flow).sum();
-        assert_eq!(sum, base(plan));
+        let sum: i128 = plan.game().leaves().iter().map(flow).sum();
+        assert_eq!(sum, i128::from(plan.value_base()));
     });
 }
 

@@ -5,6 +5,7 @@ use generator::named::{
     one_leaf, plan_f, plan_m, plan_q, plan_r_against_thirds, set_below_itself, study_game,
 };
 use generator::tables::PlanWeights;
+use reference::deliver;
 use reference::form::{best_response, payoff_table, table_value_count, value_count};
 use reference::game::{check_game, Game, Move, Player};
 use reference::plan::{check_plan, plan_length};
@@ -93,8 +94,8 @@ fn payoffs_are_read_as_twos_complement() {
     let mut file = game_file();
     put_bits(&mut file, node_field(3, 8, PAYOFF_1), 0x8000);
     put_bits(&mut file, node_field(3, 8, PAYOFF_2), 0xffff);
-    let leaves = check_game(&file).unwrap().leaves();
-    assert_eq!(leaves.last().unwrap().payoffs, [-32_768, -1]);
+    let game = check_game(&file).unwrap();
+    assert_eq!(game.leaves().last().unwrap().payoffs, [-32_768, -1]);
 }
 
 #[test]
@@ -160,21 +161,23 @@ fn a_set_below_itself_breaks_perfect_recall() {
 }
 
 #[test]
-fn the_shown_strategy_needs_room_only_where_there_is_one() {
+fn the_shown_strategy_is_delivered_whole_or_not_at_all() {
+    let Verdict::Deviation(shown) = judged(&plan_f()) else {
+        panic!("player 1 gains");
+    };
     let untouched = Move {
         set: 99,
         number: 99,
     };
-    assert_eq!(judged(&plan_q()).show(&mut []), Ok(0));
     let mut short = [untouched; 1];
-    assert_eq!(judged(&plan_f()).show(&mut short), Err(18));
+    assert_eq!(deliver(&shown.moves, &mut short), Err(18));
     assert_eq!(short, [untouched; 1]);
     let mut long = [untouched; 3];
-    assert_eq!(judged(&plan_f()).show(&mut long), Ok(2));
-    let shown = [
+    assert_eq!(deliver(&shown.moves, &mut long), Ok(2));
+    let delivered = [
         Move { set: 0, number: 0 },
         Move { set: 2, number: 0 },
         untouched,
     ];
-    assert_eq!(long, shown);
+    assert_eq!(long, delivered);
 }

@@ -1,6 +1,6 @@
 -- `desk::print` writes a part that lies within the buffer: no text is longer.
 use Prim.Native.Nat.{_≤_}
-use mathlib.Core.Path.{sym}
+use mathlib.Core.Path.{refl, sym}
 use native.Mathlib.Omega.{arith}
 use lib.ListN.{length}
 use lib.Seq.{length-take-le}
@@ -23,5 +23,8 @@ print-spec =
     (λ c κs. search needs)
     (λ c. within (c .before))
     (λ c. sym (length-take-le _ _ (within (c .before .before))))
+    (λ c κs. search needs)
+    (λ c. search needs)
+    (λ c. refl)
     (λ c κs. search needs)
     (λ c. search needs))

@@ -2,16 +2,18 @@
 use native.Mathlib.Omega.{arith}
 use mir.Syntax.{w16}
 use mir.Facts.{toZ-ofZ}
+use Rattle.entry.specs.Answers.{standRead}
 use Rattle.entry.proofs.Answers.{first-kind, last-kind}
 use Rattle.entry.proofs.node_by_kind.Statement.{statement}
 use Rattle.entry.proofs.node_by_kind.Tie as tie
 
 leaf : tie.Need-returns
 leaf c =
-    let p = c .before .before .before .args .node .payload in
+    let n = c .before .before .before .args .node in
+    let p = n .payload in
     let one = toZ-ofZ {w = w16} {z = p .payoff1} (record { sfits = omega arith }) in
     let two = toZ-ofZ {w = w16} {z = p .payoff2} (record { sfits = omega arith }) in
-    first-kind _ _ _ _ (c .before .if1 .taken) one two
+    first-kind (n .kind) (standRead n) (p .set) (p .moves) (c .before .if1 .taken) one two
 
 pub node-by-kind-spec : {M : Type 1} → statement M
 node-by-kind-spec =

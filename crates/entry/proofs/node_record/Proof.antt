@@ -1,6 +1,6 @@
 -- The game's refusal comes first, then 17; for a number in the game the record is read, and an accepted game has no kind past 2.
 use borrow.Author.Needs.{needs}
-use mathlib.Core.Path.{refl, sym, ap, _∙_}
+use mathlib.Core.Path.{refl, _∙_}
 use native.Mathlib.Omega.{arith}
 use Rattle.model.specs.Game.{gameOf}
 use Rattle.model.specs.Calls.{nodeNumberChecks}
@@ -10,9 +10,8 @@ use Rattle.game.proofs.Headers.{header-nodes, header-records}
 use Rattle.entry.specs.declared.NodeAnswer.the-variants.{Refused}
 use Rattle.entry.specs.Answers.{nodeAnswer}
 use Rattle.entry.proofs.Answers.{node-is-read}
-use Rattle.game.proofs.Outcomes.{Opened, opened, sent, refuses}
-use Rattle.calls.proofs.Refusals.{game-first}
-use Rattle.entry.proofs.Numbers.{number-missing, number-found}
+use Rattle.game.proofs.Outcomes.{Opened, opened, sent}
+use Rattle.entry.proofs.Numbers.{game-refused, number-missing, number-found}
 use Rattle.entry.proofs.node_record.Statement.{statement}
 use Rattle.entry.proofs.node_record.Tie as tie
 
@@ -24,8 +23,7 @@ unfolding nodeNumberChecks
 refused c =
     let g = c .before .before .before .before .before .args .game .now in
     let n = c .before .before .before .before .before .args .number in
-    let s = sent g (c .before .before .before .check .ensures) (c .before .enum-told .given .1) (c .refusal .ensures) in
-    refuses (λ k. nodeAnswer k g n) Refused (λ k. refl) (game-first _ _ _ _ s) (s .some)
+    game-refused (λ k. nodeAnswer k g n) Refused (λ k. refl) (λ b. gameOf b .nodes) g n (sent g (c .before .before .before .check .ensures) (c .before .enum-told .given .1) (c .refusal .ensures))
 
 missing : tie.Need-returns-2
 unfolding nodeNumberChecks
@@ -33,7 +31,7 @@ missing c =
     let g = c .before .before .before .before .before .before .args .game .now in
     let n = c .before .before .before .before .before .before .args .number in
     let o = game-opened (c .before) in
-    ap (λ k. nodeAnswer k g n) (sym (number-missing (λ b. gameOf b .nodes) g n (o .none) (omega (arith, header-nodes _ g (o .header)))))
+    number-missing (λ k. nodeAnswer k g n) Refused (λ k. refl) (λ b. gameOf b .nodes) g n (o .none) (omega (arith, header-nodes _ g (o .header)))
 
 in-records : tie.Need-read-requires
 in-records c κs =
@@ -49,8 +47,8 @@ found c =
     let o = game-opened (c .before .before .before .before) in
     let kind = game-rules g (o .none) .kinds n (omega (arith, header-nodes _ g (o .header))) in
     c .node-by-kind .ensures
-    ∙ node-is-read g (c .before .read .result) (c .before .read .ensures) (c .before .before .index .ensures) kind
-    ∙ ap (λ k. nodeAnswer k g n) (sym (number-found (λ b. gameOf b .nodes) g n (o .none) (omega (arith, header-nodes _ g (o .header)))))
+    ∙ node-is-read g {n = n} (c .before .read .result) (c .before .read .ensures) (c .before .before .index .ensures) kind
+    ∙ number-found (λ k. nodeAnswer k g n) Refused (λ k. refl) (λ b. gameOf b .nodes) g n (o .none) (omega (arith, header-nodes _ g (o .header)))
 
 pub node-record-spec : {M : Type 1} → statement M
 node-record-spec =

@@ -1,6 +1,6 @@
 -- The game's refusal comes first, then 17; an accepted game obeys the rules that the lookup asks for.
 use borrow.Author.Needs.{needs}
-use mathlib.Core.Path.{refl, sym, ap, _∙_}
+use mathlib.Core.Path.{refl, _∙_}
 use native.Mathlib.Omega.{arith}
 use Rattle.model.specs.Game.{gameOf}
 use Rattle.model.specs.Calls.{setNumberChecks}
@@ -9,9 +9,8 @@ use Rattle.game.proofs.Headers.{header-sets, header-framed}
 use Rattle.entry.specs.declared.SequenceAnswer.the-variants.{Refused}
 use Rattle.entry.specs.Answers.{sequenceAnswer}
 use Rattle.entry.proofs.Answers.{sequence-is-read}
-use Rattle.game.proofs.Outcomes.{Opened, opened, sent, refuses}
-use Rattle.calls.proofs.Refusals.{game-first}
-use Rattle.entry.proofs.Numbers.{number-missing, number-found}
+use Rattle.game.proofs.Outcomes.{Opened, opened, sent}
+use Rattle.entry.proofs.Numbers.{game-refused, number-missing, number-found}
 use Rattle.entry.proofs.own_sequence.Statement.{statement}
 use Rattle.entry.proofs.own_sequence.Tie as tie
 
@@ -23,8 +22,7 @@ unfolding setNumberChecks
 refused c =
     let g = c .before .before .before .before .before .args .game .now in
     let n = c .before .before .before .before .before .args .number in
-    let s = sent g (c .before .before .before .check .ensures) (c .before .enum-told .given .1) (c .refusal .ensures) in
-    refuses (λ k. sequenceAnswer k g n) Refused (λ k. refl) (game-first _ _ _ _ s) (s .some)
+    game-refused (λ k. sequenceAnswer k g n) Refused (λ k. refl) (λ b. gameOf b .sets) g n (sent g (c .before .before .before .check .ensures) (c .before .enum-told .given .1) (c .refusal .ensures))
 
 missing : tie.Need-returns-2
 unfolding setNumberChecks
@@ -32,7 +30,7 @@ missing c =
     let g = c .before .before .before .before .before .before .args .game .now in
     let n = c .before .before .before .before .before .before .args .number in
     let o = game-opened (c .before) in
-    ap (λ k. sequenceAnswer k g n) (sym (number-missing (λ b. gameOf b .sets) g n (o .none) (omega (arith, header-sets _ g (o .header)))))
+    number-missing (λ k. sequenceAnswer k g n) Refused (λ k. refl) (λ b. gameOf b .sets) g n (o .none) (omega (arith, header-sets _ g (o .header)))
 
 in-sets : tie.Need-own-sequence-requires
 in-sets c κs =
@@ -47,8 +45,8 @@ found c =
     let g = c .before .before .before .before .before .before .before .before .args .game .now in
     let n = c .before .before .before .before .before .before .before .before .args .number in
     let o = game-opened (c .before .before .before) in
-    sequence-is-read g (c .own-sequence .result) (c .own-sequence .ensures) (c .before .index .ensures)
-    ∙ ap (λ k. sequenceAnswer k g n) (sym (number-found (λ b. gameOf b .sets) g n (o .none) (omega (arith, header-sets _ g (o .header)))))
+    sequence-is-read g {h = n} (c .own-sequence .result) (c .own-sequence .ensures) (c .before .index .ensures)
+    ∙ number-found (λ k. sequenceAnswer k g n) Refused (λ k. refl) (λ b. gameOf b .sets) g n (o .none) (omega (arith, header-sets _ g (o .header)))
 
 pub own-sequence-spec : {M : Type 1} → statement M
 own-sequence-spec =

@@ -1,6 +1,6 @@
 -- The game's refusal comes first, then 17; for a number in the game the entry is read.
 use borrow.Author.Needs.{needs}
-use mathlib.Core.Path.{refl, sym, ap, _∙_}
+use mathlib.Core.Path.{refl, _∙_}
 use native.Mathlib.Omega.{arith}
 use Rattle.model.specs.Game.{gameOf}
 use Rattle.model.specs.Calls.{setNumberChecks}
@@ -9,9 +9,8 @@ use Rattle.game.proofs.NodeTests.{few-sets}
 use Rattle.entry.specs.declared.SetAnswer.the-variants.{Refused}
 use Rattle.entry.specs.Answers.{setAnswer}
 use Rattle.entry.proofs.Answers.{set-is-read}
-use Rattle.game.proofs.Outcomes.{Opened, opened, sent, refuses}
-use Rattle.calls.proofs.Refusals.{game-first}
-use Rattle.entry.proofs.Numbers.{number-missing, number-found}
+use Rattle.game.proofs.Outcomes.{Opened, opened, sent}
+use Rattle.entry.proofs.Numbers.{game-refused, number-missing, number-found}
 use Rattle.entry.proofs.set_entry.Statement.{statement}
 use Rattle.entry.proofs.set_entry.Tie as tie
 
@@ -23,8 +22,7 @@ unfolding setNumberChecks
 refused c =
     let g = c .before .before .before .before .before .args .game .now in
     let n = c .before .before .before .before .before .args .number in
-    let s = sent g (c .before .before .before .check .ensures) (c .before .enum-told .given .1) (c .refusal .ensures) in
-    refuses (λ k. setAnswer k g n) Refused (λ k. refl) (game-first _ _ _ _ s) (s .some)
+    game-refused (λ k. setAnswer k g n) Refused (λ k. refl) (λ b. gameOf b .sets) g n (sent g (c .before .before .before .check .ensures) (c .before .enum-told .given .1) (c .refusal .ensures))
 
 missing : tie.Need-returns-2
 unfolding setNumberChecks
@@ -32,7 +30,7 @@ missing c =
     let g = c .before .before .before .before .before .before .args .game .now in
     let n = c .before .before .before .before .before .before .args .number in
     let o = game-opened (c .before) in
-    ap (λ k. setAnswer k g n) (sym (number-missing (λ b. gameOf b .sets) g n (o .none) (omega (arith, header-sets _ g (o .header)))))
+    number-missing (λ k. setAnswer k g n) Refused (λ k. refl) (λ b. gameOf b .sets) g n (o .none) (omega (arith, header-sets _ g (o .header)))
 
 in-entries : tie.Need-read-requires
 in-entries c κs =
@@ -45,8 +43,8 @@ found c =
     let g = c .before .before .before .before .before .before .before .before .args .game .now in
     let n = c .before .before .before .before .before .before .before .before .args .number in
     let o = game-opened (c .before .before .before) in
-    set-is-read g (c .read .result) (c .read .ensures) (c .before .index .ensures)
-    ∙ ap (λ k. setAnswer k g n) (sym (number-found (λ b. gameOf b .sets) g n (o .none) (omega (arith, header-sets _ g (o .header)))))
+    set-is-read g {h = n} (c .read .result) (c .read .ensures) (c .before .index .ensures)
+    ∙ number-found (λ k. setAnswer k g n) Refused (λ k. refl) (λ b. gameOf b .sets) g n (o .none) (omega (arith, header-sets _ g (o .header)))
 
 pub set-entry-spec : {M : Type 1} → statement M
 set-entry-spec =

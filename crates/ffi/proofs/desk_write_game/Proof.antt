@@ -1,7 +1,7 @@
 -- The length goes to the reference; a refusal leaves it as it was.
 use lib.ListN.{length}
-use Rattle.model.specs.Writing.{gameBytes}
-use Rattle.writers.specs.GameWriter.{gameFields, gameWriterRefusal}
+use Rattle.model.specs.Writing.{gameBytes, gameFields}
+use Rattle.writers.specs.GameWriter.{gameWriterRefusal}
 use Rattle.ffi.proofs.Answered.{written, not-written}
 use Rattle.ffi.proofs.desk_write_game.Statement.{statement}
 use Rattle.ffi.proofs.desk_write_game.Tie as tie

@@ -2,13 +2,14 @@
 use mathlib.Core.Path.{_≡_, refl, sym, ap, _∙_}
 use native.Mathlib.Omega.{arith}
 use borrow.Author.Needs.{needs}
+use Rattle.algebra.specs.Arrays.{over}
+use Rattle.algebra.proofs.Fillings.{filled}
 use Rattle.model.specs.Game.{gameOf, one, two}
 use Rattle.model.specs.Sequences.{sequenceCount}
 use Rattle.model.specs.Plan.{weightsBefore, planPairOf, pairFits}
 use Rattle.model.specs.PlanChecks.{planHasLength, planWellFormed, planChecks}
-use Rattle.game.specs.Answers.{checkedOf, over}
+use Rattle.game.specs.Answers.{checkedOf}
 use Rattle.game.proofs.NodeTests.{few-sets}
-use Rattle.game.proofs.Recalls.{filled}
 use Rattle.game.proofs.Headers.{header-sets, fine-test, Past, past-none, past-fine, past-stops, past-all}
 use Rattle.plan.specs.Answers.{planAnswer}
 use Rattle.plan.specs.Weights.{weightByNumber}

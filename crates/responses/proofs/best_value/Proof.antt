@@ -1,5 +1,4 @@
 -- The worth recursion runs over the sums that were put, and the moves are chosen by the worths that it stored.
-use borrow.Author.Needs.{needs}
 use mathlib.Core.Path.{_∙_}
 use mir.Syntax.{w64}
 use mir.Facts.{toZ-ofZ}

@@ -3,8 +3,8 @@ use Prim.Native.Nat.{_-_}
 use mathlib.Core.Path.{_≡_, refl}
 use native.Mathlib.Omega.{arith}
 use lib.ListN.{length}
+use Rattle.algebra.proofs.Fillings.{Filling, filling-none, filling-more, filling-long, filling-all}
 use Rattle.model.specs.Writing.{entry}
-use Rattle.game.proofs.Fillings.{Filling, filling-none, filling-more, filling-long, filling-all}
 use Rattle.table.proofs.copy.Statement.{statement}
 use Rattle.table.proofs.copy.Tie as tie
 

@@ -6,9 +6,9 @@ use lib.IntN.{pos}
 use lib.ListN.{length}
 use mir.Syntax.{w64}
 use mir.Facts.{toZ-ofZ}
-use borrow.Author.Needs.{needs, sfits-of}
+use borrow.Author.Needs.{sfits-of}
+use Rattle.algebra.proofs.Fillings.{Filling, filling-none, filling-more, filling-long, filling-all}
 use Rattle.model.specs.Writing.{entryZ}
-use Rattle.game.proofs.Fillings.{Filling, filling-none, filling-more, filling-long, filling-all}
 use Rattle.table.proofs.copy_sums.Statement.{statement}
 use Rattle.table.proofs.copy_sums.Tie as tie
 

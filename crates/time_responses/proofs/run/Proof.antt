@@ -10,19 +10,19 @@ use Rattle.model.specs.PlanChecks.{pairRefusal}
 use Rattle.model.proofs.Budget.{game-limits}
 use Rattle.model.proofs.Demand1.{game-rules}
 use Rattle.plan.specs.declared.PairHeader.{PairHeader}
+use Rattle.plan.specs.Weights.{Weights}
 use Rattle.plan.specs.Answers.{weightsAfter}
 use Rattle.plan.proofs.Pairs.{PairOpened, pair-opened, pair-over, pair-holds}
 use Rattle.plan.proofs.Stored.{stored-fits, stored-zeros}
-use Rattle.form.specs.Opponents.{Opponent}
-use Rattle.form.proofs.PairBudget.{opponent1}
+use Rattle.form.proofs.PairBudget.{weights2}
 use Rattle.time_responses.proofs.run.Statement.{statement}
 use Rattle.time_responses.proofs.run.Tie as tie
 
--- player 2 is player 1's opponent
-opponent-read : (game plan : List ℕ) {h : PairHeader} → PairOpened game plan h → {x y : List ℕ} → x ≡ weightsAfter (pairRefusal game plan) game plan one (replicate 4095 0) → y ≡ weightsAfter (pairRefusal game plan) game plan two (replicate 4095 0) → 4095 ≤ length x → 4095 ≤ length y → Opponent (gameOf game) one y
-opponent-read game plan o {x} {y} a b long1 long2 =
+-- player 2's weights
+weights-read : (game plan : List ℕ) {h : PairHeader} → PairOpened game plan h → {x y : List ℕ} → x ≡ weightsAfter (pairRefusal game plan) game plan one (replicate 4095 0) → y ≡ weightsAfter (pairRefusal game plan) game plan two (replicate 4095 0) → 4095 ≤ length x → 4095 ≤ length y → Weights (gameOf game) two y
+weights-read game plan o {x} {y} a b long1 long2 =
     let zeros = replicate {A = ℕ} 4095 0 in
-    opponent1 (gameOf game) (game-rules game (o .game-none)) (game-limits game) {x = x} (record {
+    weights2 (gameOf game) (game-rules game (o .game-none)) (game-limits game) {x = x} (record {
       long1 = long1;
       long2 = long2;
       small1 = stored-zeros (gameOf game) plan one (pair-over game plan o one zeros a);
@@ -35,7 +35,7 @@ with-numbers-requires c κs =
     let a = c .before .before .before .before .before .before .before .before .before .before .before .args in
     let read = c .before .before .before .before .before .before .read in
     let o = pair-opened (a .game .now) (a .plan .now) (read .ensures .0) (c .before .before .answer .given .1) in
-    (o .header, game-rules (a .game .now) (o .game-none), opponent-read (a .game .now) (a .plan .now) o (read .ensures .1) (read .ensures .2) (omega (arith, read .kept)) (omega (arith, read .kept)))
+    (o .header, game-rules (a .game .now) (o .game-none), weights-read (a .game .now) (a .plan .now) o (read .ensures .1) (read .ensures .2) (omega (arith, read .kept)) (omega (arith, read .kept)))
 
 pub run-spec : {M : Type 1} → statement M
 run-spec =

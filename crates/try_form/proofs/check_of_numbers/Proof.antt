@@ -1,27 +1,15 @@
--- `try_form::check_of_numbers` ends at the last row.
-use Prim.Native.Nat.{_-_}
+-- `try_form::check_of_numbers` takes a part that lies within the column.
+use mathlib.Core.Path.{sym}
+use native.Mathlib.Omega.{arith}
+use lib.Seq.{length-take-le}
 use borrow.Author.Needs.{needs}
 use Rattle.try_form.proofs.check_of_numbers.Statement.{statement}
 use Rattle.try_form.proofs.check_of_numbers.Tie as tie
 
-abbrev Inv-loop : tie.InvT-loop
-Inv-loop rows column check₀ at₀ check at = Unit {0}
-
-abbrev μ-loop : tie.MeasureT-loop
-μ-loop rows column check₀ at₀ check at = rows - at
+slice-aggregate-check-of : tie.Need-slice-aggregate-check-of
+slice-aggregate-check-of c = sym (length-take-le _ _ (omega arith))
 
 pub check-of-numbers-spec : {M : Type 1} → statement M
 check-of-numbers-spec =
     tie.close
-    (tie.spec
-    Inv-loop
-    μ-loop
-    (λ c. tt)
-    (λ c κs. search needs)
-    (λ c. search needs)
-    (λ c. search needs)
-    (λ c κs. search needs)
-    (λ c. search needs)
-    (λ c. search needs)
-    (λ c. tt)
-    (λ c. search needs))
+    (tie.spec slice-aggregate-check-of (λ c κs. search needs) (λ c. search needs))

@@ -1,4 +1,4 @@
--- `try_writers::try_cases` ends: each line ends after its start.
+-- `try_writers::try_cases` ends: each case leaves fewer bytes of the list.
 use Prim.Native.Nat.{_-_}
 use lib.ListN.{length}
 use borrow.Author.Needs.{needs}
@@ -19,12 +19,8 @@ try-cases-spec =
     μ-loop
     (λ c. tt)
     (λ c κs. search needs)
-    (λ c. search needs)
-    (λ c. search needs)
-    (λ c. search needs)
     (λ c κs. search needs)
-    (λ c. search needs)
-    (λ c. search needs)
+    (λ c κs. search needs)
     (λ c. search needs)
     (λ c. tt)
     (λ c. search needs))

@@ -19,6 +19,7 @@ pub try-long-game-spec : {M : Type 1} → statement M
 try-long-game-spec =
     tie.close
     (tie.spec
+    (λ c. search needs)
     (λ c κs. search needs)
     (λ c. search needs)
     (λ c κs. search needs)

@@ -13,6 +13,7 @@ pub try-long-plan-spec : {M : Type 1} → statement M
 try-long-plan-spec =
     tie.close
     (tie.spec
+    (λ c. search needs)
     (λ c κs. search needs)
     (λ c. search needs)
     (λ c κs. search needs)

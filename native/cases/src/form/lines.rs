@@ -17,14 +17,21 @@ const MOST_ROOM: usize = 8;
 /// What each entry of a buffer is before the call.
 const HELD: i128 = 7;
 
-/// The table and the values of a game with a plan, made in buffers that are long enough.
+/// As many rows as the longest table has.
+const MOST_ROWS: usize = 4095;
+
+/// The table, the same as rows and the values of a game with a plan, made in buffers that are
+/// long enough.
 pub fn check_lines(case: &Case) -> String {
     let table = table_of(case);
     let answer = heading(&table);
     let rows = table.map(|rows| row_lines(&rows)).unwrap_or_default();
+    let (table, held) = in_rows(case, MOST_ROWS);
+    let as_rows = heading(&table);
+    let check = Check::of(&held.concat());
     let values = shown(values_of(case), |values| values);
     let name = case.name();
-    format!("{name}: {answer}\n{rows}{name}: {values}\n")
+    format!("{name}: {answer}\n{rows}{name} as rows: {as_rows} check {check}\n{name}: {values}\n")
 }
 
 fn heading(table: &Result<Vec<Row>, Refusal>) -> String {
@@ -52,19 +59,38 @@ fn row_line(row: &Row) -> String {
     format!("row {s} {t} sums {one} {two}\n")
 }
 
-/// Player 1's sequences, player 2's, player 1's sums and player 2's.
+/// Player 1's sequence, player 2's, player 1's sum and player 2's.
+fn numbers(row: &Row) -> [i128; 4] {
+    let ([s, t], [one, two]) = (row.sequences, row.sums);
+    [s as i128, t as i128, one, two]
+}
+
+/// The columns of these numbers.
 fn columns(rows: &[Row]) -> [Vec<i128>; 4] {
-    let column = |number: fn(&Row) -> i128| rows.iter().map(number).collect();
-    [
-        column(|row| row.sequences[0] as i128),
-        column(|row| row.sequences[1] as i128),
-        column(|row| row.sums[0]),
-        column(|row| row.sums[1]),
-    ]
+    [0, 1, 2, 3].map(|field| rows.iter().map(|row| numbers(row)[field]).collect())
 }
 
 fn table_of(case: &Case) -> Result<Vec<Row>, Refusal> {
     Ok(payoff_table(&check_game(&case.game)?))
+}
+
+/// The table where buffers of these lengths have room for it.
+fn table_in(case: &Case, rooms: &[usize]) -> Result<Vec<Row>, Refusal> {
+    let rows = table_of(case)?;
+    match rooms.iter().all(|&room| rows.len() <= room) {
+        true => Ok(rows),
+        false => Err(18),
+    }
+}
+
+/// The table as rows where there is room for it, and what so many rows hold afterwards.
+fn in_rows(case: &Case, room: usize) -> (Result<Vec<Row>, Refusal>, Vec<[i128; 4]>) {
+    let table = table_in(case, &[room]);
+    let mut held = vec![[HELD; 4]; room];
+    for (place, row) in held.iter_mut().zip(table.iter().flatten()) {
+        *place = numbers(row);
+    }
+    (table, held)
 }
 
 /// Both values, both best values, then D0, D1 and D2.
@@ -81,7 +107,7 @@ fn values_of(case: &Case) -> Result<String, Refusal> {
 }
 
 /// A heading, then for each length the line of four buffers of that length, and those where
-/// one buffer has it and the others are as long as they get.
+/// one buffer has it and the others are as long as they get; then the lines of rows.
 pub fn room_lines(case: &Case) -> String {
     let mut lines = format!("rooms of {}\n", case.name());
     for room in 0..=MOST_ROOM {
@@ -92,15 +118,25 @@ pub fn room_lines(case: &Case) -> String {
             lines += &room_line(case, rooms);
         }
     }
+    for room in 0..=MOST_ROOM {
+        lines += &rows_line(case, room);
+    }
     lines
 }
 
+/// The line of so many rows.
+fn rows_line(case: &Case, room: usize) -> String {
+    let (table, held) = in_rows(case, room);
+    let answer = heading(&table);
+    let held: String = held
+        .iter()
+        .map(|row| format!(";{}", joined(row, i128::to_string)))
+        .collect();
+    format!("rows {room}: {answer}{held}\n")
+}
+
 fn room_line(case: &Case, rooms: [usize; 4]) -> String {
-    let table =
-        table_of(case).and_then(|rows| match rooms.iter().all(|&room| rows.len() <= room) {
-            true => Ok(rows),
-            false => Err(18),
-        });
+    let table = table_in(case, &rooms);
     let mut buffers = rooms.map(|room| vec![HELD; room]);
     if let Ok(rows) = &table {
         for (buffer, column) in buffers.iter_mut().zip(columns(rows)) {

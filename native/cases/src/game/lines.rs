@@ -3,7 +3,7 @@
 use super::Case;
 use crate::text::{joined, shown};
 use reference::game::{check_game, InfoSet, Kind, Node};
-use reference::writer::fields_of;
+use reference::writer::{fields_of, Fields};
 
 /// The answer to a file: `accepted` with N, H and D0, or its refusal.
 pub fn check_line(case: &Case) -> String {
@@ -50,35 +50,42 @@ fn field_line(case: &Case, last: usize) -> String {
     let mut payoffs = [10, last].map(|room| vec![7; room]);
     if let Ok(game) = &game {
         let fields = fields_of(game);
-        let given = [
-            fields.players,
-            fields.set_moves,
-            fields.kinds,
-            fields.parents,
-            fields.moves,
-            fields.weights,
-            fields.sets,
-            fields.chance_moves,
-        ];
-        for (buffer, field) in numbers.iter_mut().zip(given) {
-            buffer[..field.len()].copy_from_slice(&field);
-        }
-        for (buffer, field) in payoffs.iter_mut().zip(fields.payoffs) {
-            buffer[..field.len()].copy_from_slice(&field);
-        }
+        put_fields(&mut payoffs, &fields.payoffs);
+        put_fields(&mut numbers, &number_fields(fields));
     }
     let answer = shown(game, |game| {
         let (nodes, sets) = (game.nodes().len(), game.sets().len());
         format!("given {nodes} {sets} {}", game.root_weight())
     });
     let numbers = numbers.map(|buffer| joined(&buffer, |number| number.to_string()));
-    let signs = payoffs.map(|buffer| joined(&buffer, |payoff| sign(*payoff).to_string()));
-    let columns = numbers.iter().chain(&signs);
+    let payoffs = payoffs.map(|buffer| joined(&buffer, |payoff| payoff.to_string()));
+    let columns = numbers.iter().chain(&payoffs);
     let named = NAMES.iter().zip(columns);
     let named: String = named
         .map(|(name, column)| format!(" {name}{column}"))
         .collect();
     format!("fields: {answer}{named}\n")
+}
+
+/// The fields without a sign, in the order of the buffers.
+fn number_fields(fields: Fields) -> [Vec<u64>; 8] {
+    [
+        fields.players,
+        fields.set_moves,
+        fields.kinds,
+        fields.parents,
+        fields.moves,
+        fields.weights,
+        fields.sets,
+        fields.chance_moves,
+    ]
+}
+
+/// Puts each field to the front of its buffer.
+fn put_fields<T: Copy>(buffers: &mut [Vec<T>], fields: &[Vec<T>]) {
+    for (buffer, field) in buffers.iter_mut().zip(fields) {
+        buffer[..field.len()].copy_from_slice(field);
+    }
 }
 
 const NAMES: [&str; 10] = [
@@ -93,14 +100,6 @@ const NAMES: [&str; 10] = [
     "payoffs1",
     "payoffs2",
 ];
-
-fn sign(payoff: i64) -> char {
-    match payoff.signum() {
-        -1 => '-',
-        0 => '0',
-        _ => '+',
-    }
-}
 
 /// The numbers below a count, the count itself and 2^64 - 1.
 fn numbers(count: usize) -> impl Iterator<Item = usize> {

@@ -1,9 +1,10 @@
 //! Files that break two rules with neighbouring numbers. Where the file has room
 //! for it, the rule of the larger number is broken at the earlier place.
 
-use super::{changed, Case};
+use super::Case;
 use generator::edit::{
-    node_field, set_moves, DECISION_SET, EDITION, KIND, MOVE, NODES, PARENT, ROOT_WEIGHT, WEIGHT,
+    changed, node_field, set_moves, DECISION_SET, EDITION, KIND, MOVE, NODES, PARENT, ROOT_WEIGHT,
+    WEIGHT,
 };
 use generator::named::{long_path, set_below_itself, study_game};
 use reference::game::Player;

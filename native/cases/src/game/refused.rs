@@ -4,9 +4,9 @@ use super::recall::{
     earlier_move_forgotten, last_move_forgotten, longer_with_the_same_end, own_move_or_none,
     set_forgotten,
 };
-use super::{changed, made_for, Case};
+use super::{made_for, Case};
 use generator::edit::{
-    node_field, set_moves, set_player, Field, CHANCE_MOVES, CHANCE_ZEROS, DECISION_SET,
+    changed, node_field, set_moves, set_player, Field, CHANCE_MOVES, CHANCE_ZEROS, DECISION_SET,
     DECISION_ZEROS, EDITION, KIND, MOVE, NODES, PARENT, ROOT_WEIGHT, SETS, WEIGHT,
 };
 use generator::large::most_bytes;

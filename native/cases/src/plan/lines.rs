@@ -19,6 +19,7 @@ const HELD: u64 = 7;
 /// The answer to a game and a plan, read into a buffer that is long enough.
 pub fn check_line(case: &Case) -> String {
     let (answer, _) = read(case, ROOM);
+    let answer = shown(answer, |[d1, d2, _]| format!("plan of {d1} {d2}"));
     format!("{}: {answer}\n", case.name())
 }
 
@@ -27,6 +28,9 @@ pub fn room_lines(case: &Case) -> String {
     let mut lines = format!("rooms of {}\n", case.name());
     for room in 0..=MOST_ROOM {
         let (answer, buffer) = read(case, room);
+        let answer = shown(answer, |[d1, d2, count]| {
+            format!("plan of {d1} {d2} count {count}")
+        });
         let weights = joined(&buffer, u64::to_string);
         lines += &format!("room {room}: {answer} weights{weights}\n");
     }
@@ -34,19 +38,17 @@ pub fn room_lines(case: &Case) -> String {
 }
 
 /// The answer, and a buffer of this length afterwards.
-fn read(case: &Case, room: usize) -> (String, Vec<u64>) {
+fn read(case: &Case, room: usize) -> (Result<[u64; 3], Refusal>, Vec<u64>) {
     let mut buffer = vec![HELD; room];
     let answer = plan_fields(case, &mut buffer);
-    (
-        shown(answer, |[d1, d2]| format!("plan of {d1} {d2}")),
-        buffer,
-    )
+    (answer, buffer)
 }
 
-/// D1 and D2, with the weights in the buffer: 1 to 16, then 18.
-fn plan_fields(case: &Case, buffer: &mut [u64]) -> Result<[u64; 2], Refusal> {
+/// D1, D2 and the number of weights, with the weights in the buffer: 1 to 16, then 18.
+fn plan_fields(case: &Case, buffer: &mut [u64]) -> Result<[u64; 3], Refusal> {
     let game = check_game(&case.game)?;
     let plan = check_plan(&game, &case.plan)?;
-    deliver(&plan.weights_in_file_order(), buffer)?;
-    Ok(Player::BOTH.map(|player| plan.denominator(player)))
+    let count = deliver(&plan.weights_in_file_order(), buffer)?;
+    let [d1, d2] = Player::BOTH.map(|player| plan.denominator(player));
+    Ok([d1, d2, count as u64])
 }

@@ -1,7 +1,7 @@
 //! Files that break two rules with neighbouring numbers.
 
-use super::{changed, plan_of, Case};
-use generator::edit::{plan_weight, D1, EDITION};
+use super::{plan_of, Case};
+use generator::edit::{changed, plan_weight, Field, D1, EDITION};
 use generator::named::{plan_m, set_below_itself, study_game, wide_decision};
 use reference::Refusal;
 
@@ -14,61 +14,52 @@ pub struct Pair {
 
 pub fn pairs() -> Result<Vec<Pair>, Refusal> {
     let study = study_game().bytes()?;
-    let forgetful = set_below_itself().bytes()?;
     let m = plan_m().bytes()?;
-    let misfit = changed(&m, plan_weight(0), 2);
-    let edition = changed(&m, EDITION, 2);
-    let short = m[..12].to_vec();
-    let three = wide_decision(3).bytes()?;
-    let off_by_one = plan_of(&[4, 1, 1, 1], &[5])?;
-    let mut filled_by_one = off_by_one.clone();
-    filled_by_one[8] |= 1;
     Ok(vec![
-        pair(
-            13,
-            "before-14",
-            (study.clone(), short.clone()),
-            (forgetful, short),
-        ),
-        pair(
-            14,
-            "before-15",
-            (study.clone(), edition.clone()),
-            (study.clone(), edition[..12].to_vec()),
-        ),
-        pair(
-            15,
-            "before-16",
-            (study.clone(), misfit.clone()),
-            (study.clone(), changed(&misfit, EDITION, 2)),
-        ),
-        pair(
-            15,
-            "before-16-by-d1",
-            (study.clone(), misfit.clone()),
-            (study, changed(&misfit, D1, 0)),
-        ),
-        pair(
-            15,
-            "before-16-by-filling",
-            (three.clone(), off_by_one),
-            (three, filled_by_one),
-        ),
+        short_plan_of_a_refused_game(&study, &m)?,
+        short_plan_of_another_edition(&study, &m),
+        misfit("before-16", &study, &m, (EDITION, 2)),
+        misfit("before-16-by-d1", &study, &m, (D1, 0)),
+        misfit_with_filling()?,
     ])
 }
 
-fn pair(
-    lower: Refusal,
-    title: &'static str,
-    upper: (Vec<u8>, Vec<u8>),
-    both: (Vec<u8>, Vec<u8>),
-) -> Pair {
-    let (game, plan) = both;
-    let both = Case {
-        refusal: lower,
-        title,
-        game,
-        plan,
-    };
-    Pair { upper, both }
+fn short_plan_of_a_refused_game(study: &[u8], m: &[u8]) -> Result<Pair, Refusal> {
+    let forgetful = set_below_itself().bytes()?;
+    let short = &m[..12];
+    Ok(pair(13, "before-14", (study, short), (&forgetful, short)))
+}
+
+fn short_plan_of_another_edition(study: &[u8], m: &[u8]) -> Pair {
+    let edition = changed(m, EDITION, 2);
+    let short = &edition[..12];
+    pair(14, "before-15", (study, &edition), (study, short))
+}
+
+/// Plan M with another weight, then with another header field too.
+fn misfit(title: &'static str, study: &[u8], m: &[u8], (field, value): (Field, u64)) -> Pair {
+    let misfit = changed(m, plan_weight(0), 2);
+    let both = changed(&misfit, field, value);
+    pair(15, title, (study, &misfit), (study, &both))
+}
+
+fn misfit_with_filling() -> Result<Pair, Refusal> {
+    let three = wide_decision(3).bytes()?;
+    let misfit = plan_of(&[4, 1, 1, 1], &[5])?;
+    let mut both = misfit.clone();
+    both[8] |= 1;
+    let title = "before-16-by-filling";
+    Ok(pair(15, title, (&three, &misfit), (&three, &both)))
+}
+
+fn pair(lower: Refusal, title: &'static str, upper: (&[u8], &[u8]), both: (&[u8], &[u8])) -> Pair {
+    Pair {
+        upper: (upper.0.to_vec(), upper.1.to_vec()),
+        both: Case {
+            refusal: lower,
+            title,
+            game: both.0.to_vec(),
+            plan: both.1.to_vec(),
+        },
+    }
 }

@@ -1,9 +1,9 @@
 //! Plan files made for one refusal each, 14 to 16, and refused games with a plan.
 
 use super::accepted::chance_plan;
-use super::{changed, made_for, plan_of, Case};
+use super::{made_for, plan_of, Case};
 use crate::game::{accepted::chance_game, all_cases};
-use generator::edit::{plan_weight, D1, D2, EDITION, PLAN_ZEROS};
+use generator::edit::{changed, plan_weight, D1, D2, EDITION, PLAN_ZEROS};
 use generator::large::most_sets;
 use generator::named::{one_leaf, plan_m, plan_q, study_game, wide_decision};
 use generator::plans::even_plan;

@@ -3,8 +3,8 @@
 use crate::plan::Case;
 use crate::text::{joined, shown, Check};
 use reference::deliver;
-use reference::game::{check_game, Player};
-use reference::plan::{check_plan, Plan};
+use reference::game::check_game;
+use reference::plan::check_plan;
 use reference::verdict::{verdict, Verdict};
 use reference::Refusal;
 
@@ -61,7 +61,7 @@ pub fn room_lines(case: &Case) -> String {
 fn judge(case: &Case, buffer: &mut [u64]) -> Result<Answer, Refusal> {
     let game = check_game(&case.game)?;
     let plan = check_plan(&game, &case.plan)?;
-    let base = base_of(&plan);
+    let base = plan.value_base();
     match verdict(&plan) {
         Verdict::Accepted => Ok(Answer {
             text: format!("accepted over {base}"),
@@ -80,10 +80,4 @@ fn judge(case: &Case, buffer: &mut [u64]) -> Result<Answer, Refusal> {
             })
         }
     }
-}
-
-/// D0 × D1 × D2.
-fn base_of(plan: &Plan) -> u64 {
-    let [d1, d2] = Player::BOTH.map(|player| plan.denominator(player));
-    plan.game().root_weight() * d1 * d2
 }

@@ -5,6 +5,7 @@
 use desk::plain::responses::Prepared;
 use desk::plain::BitLoop;
 use desk::samples::{samples, Pair};
+use desk::timing::least;
 use desk::Refusal;
 use std::hint::black_box;
 use std::path::{Path, PathBuf};
@@ -18,12 +19,6 @@ const PLAYER: usize = 0;
 const FEW: u16 = 1_000;
 const MANY: u16 = 5_000;
 const ROUNDS: usize = 9;
-
-/// The least of several times, in seconds.
-fn least(run: impl FnMut() -> io::Result<f64>) -> io::Result<f64> {
-    let times: io::Result<Vec<f64>> = std::iter::repeat_with(run).take(ROUNDS).collect();
-    Ok(times?.into_iter().fold(f64::MAX, f64::min))
-}
 
 /// How long the program takes for so many best responses, with all that it does before.
 fn program_time(program: &Path, folder: &Path, times: u16) -> io::Result<f64> {
@@ -39,8 +34,8 @@ fn program_time(program: &Path, folder: &Path, times: u16) -> io::Result<f64> {
 fn proved(program: &Path, folder: &Path, pair: &Pair) -> io::Result<f64> {
     fs::write(folder.join("game.bin"), &pair.game)?;
     fs::write(folder.join("plan.bin"), &pair.plan)?;
-    let few = least(|| program_time(program, folder, FEW))?;
-    let many = least(|| program_time(program, folder, MANY))?;
+    let few = least(ROUNDS, || program_time(program, folder, FEW))?;
+    let many = least(ROUNDS, || program_time(program, folder, MANY))?;
     Ok((many - few) * 1e6 / f64::from(MANY - FEW))
 }
 
@@ -48,7 +43,7 @@ fn proved(program: &Path, folder: &Path, pair: &Pair) -> io::Result<f64> {
 fn plain(pair: &Pair) -> io::Result<f64> {
     let prepared = Prepared::of::<BitLoop>(&pair.game, &pair.plan, PLAYER);
     let mut prepared = prepared.map_err(refused)?;
-    let time = least(|| {
+    let time = least(ROUNDS, || {
         let start = Instant::now();
         for _ in FEW..MANY {
             black_box(black_box(&mut prepared).respond());

@@ -1,6 +1,6 @@
 //! The writers of full-size files, beside plain Rust by the same method, in one run.
 
-use desk::timing::best_of;
+use desk::timing::{best_of, Run};
 use desk::{plain, Buffers, Output, Refusal};
 use generator::games::random_game;
 use generator::large::{most_nodes, most_sets};
@@ -47,16 +47,11 @@ fn report<T>(
     proved: fn(&T, &mut Output) -> Result<(), Refusal>,
     same: fn(&T, &mut Output) -> Result<(), Refusal>,
 ) {
-    let [mut one, mut two] = [0; 2].map(|zero| Output {
-        bytes: vec![0; ROOM],
-        length: zero,
+    let runs = [proved, same].map(|write| -> Run {
+        let mut out = Output::with_room(ROOM);
+        Box::new(move || write_all(inputs, &mut out, write))
     });
-    let [proved, same] = best_of(
-        inputs.len(),
-        [&mut || write_all(inputs, &mut one, proved), &mut || {
-            write_all(inputs, &mut two, same)
-        }],
-    );
+    let [proved, same] = best_of(inputs.len(), runs);
     let ratio = proved / same;
     println!("{name}: proved {proved:.1} us, plain Rust {same:.1} us, ratio {ratio:.2}");
 }

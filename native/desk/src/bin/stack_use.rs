@@ -9,6 +9,7 @@ use generator::large::{comb, most_sets};
 use generator::plans::even_plan;
 use generator::tables::GameTables;
 use reference::game::{check_game, Player};
+use reference::limits::MOST_ENTRIES;
 use std::hint::black_box;
 use std::process::{Command, Stdio};
 use std::{env, process, thread};
@@ -24,20 +25,11 @@ fn games() -> [GameTables; 3] {
 
 fn call(name: &str, game: &[u8], plan: &[u8]) {
     if name == "verdict" {
-        let mut buffers = VerdictBuffers {
-            player: 0,
-            gain: 0,
-            base: 0,
-            count: 0,
-            moves: vec![0; 4_095],
-        };
+        let mut buffers = VerdictBuffers::with_room(MOST_ENTRIES);
         assert_eq!(verdict(game, plan, &mut buffers), Ok(()));
         black_box(&buffers);
     } else {
-        let mut out = Output {
-            bytes: vec![0; MOST_TEXT],
-            length: 0,
-        };
+        let mut out = Output::with_room(MOST_TEXT);
         assert_eq!(report(game, plan, &mut out), Ok(()));
         black_box(&out);
     }

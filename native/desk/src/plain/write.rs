@@ -1,9 +1,8 @@
 //! The writers: one pass a list for 17, then the bytes, a record as one word and a
 //! plan's weights bit by bit.
 
+use super::LIMIT;
 use crate::{Buffers, Output, Refusal};
-
-const LIMIT: usize = 4095;
 
 fn all_fit(numbers: &[u64], width: usize) -> bool {
     numbers.iter().all(|&number| number < 1 << width)

@@ -88,7 +88,7 @@ pub fn parent_changes(rng: &mut Rng, game: &Game) -> Vec<Change> {
             changes.push((at(number, PARENT), rng.between(number as u64, 4_095)));
             let leaf = rng.pick(&leaves);
             changes.extend(leaf.map(|&leaf| (at(number, PARENT), leaf)));
-            let moves = move_count(game, node.parent) as u64;
+            let moves = game.move_count(node.parent) as u64;
             if moves < 64 {
                 changes.push((at(number, MOVE), rng.between(moves, 63)));
             }
@@ -116,7 +116,7 @@ pub fn child_changes(rng: &mut Rng, game: &Game) -> Vec<Change> {
             }
             _ => {}
         }
-        let moves = move_count(game, node.parent) as u64;
+        let moves = game.move_count(node.parent) as u64;
         if number > 0 && moves > 1 {
             let same = rng.between_but(0, moves - 1, node.move_number as u64);
             changes.push((node_field(sets, number, MOVE), same));
@@ -168,12 +168,4 @@ pub fn plan_weight_changes(rng: &mut Rng, plan: &Plan) -> Vec<Change> {
         }
     }
     changes
-}
-
-fn move_count(game: &Game, node: usize) -> usize {
-    match game.nodes()[node].kind {
-        Kind::Leaf { .. } => 0,
-        Kind::Decision { set } => game.sets()[set].moves,
-        Kind::Chance { moves } => moves,
-    }
 }

@@ -3,10 +3,8 @@
 use crate::rng::Rng;
 use crate::tables::{GameTables, Place};
 use reference::game::{Game, Kind};
+use reference::limits::{LONGEST_PATH, MOST_ENTRIES};
 use reference::writer::Fields;
-
-const LONGEST_PATH: usize = 255;
-const MOST_ENTRIES: usize = 4_095;
 
 /// 9: adds a leaf at a move that leads to a node already.
 pub fn add_second_child(rng: &mut Rng, game: &Game) -> Option<Vec<u8>> {
@@ -118,6 +116,6 @@ fn deepest_leaf(game: &Game) -> Option<(usize, usize)> {
     for number in 1..depths.len() {
         depths[number] = depths[game.nodes()[number].parent] + 1;
     }
-    let leaves = game.leaves().into_iter();
+    let leaves = game.leaves().iter();
     leaves.map(|leaf| (depths[leaf.node], leaf.node)).max()
 }

@@ -1,10 +1,9 @@
 //! Checks 7 to 13, each over the whole game, in document 01's order.
 
-use super::decode::{decode, MOST_MOVES};
+use super::decode::decode;
 use super::{Game, Kind, Move};
+use crate::limits::{LONGEST_PATH, MOST_MOVES};
 use crate::{require, Refusal};
-
-const LONGEST_PATH: usize = 255;
 
 /// Reads a game file, or gives the first of refusals 1 to 13 that applies.
 pub fn check_game(file: &[u8]) -> Result<Game, Refusal> {
@@ -17,7 +16,7 @@ pub fn check_game(file: &[u8]) -> Result<Game, Refusal> {
     require(longest_path(&game) <= LONGEST_PATH, 11)?;
     require(sets_are_met(&game), 12)?;
     require(has_perfect_recall(&game), 13)?;
-    Ok(game)
+    Ok(game.with_leaves())
 }
 
 /// Set numbers lie below H, and chance nodes have 1 to 64 moves.
@@ -92,7 +91,7 @@ fn longest_path(game: &Game) -> usize {
 }
 
 fn sets_are_met(game: &Game) -> bool {
-    (0..game.sets.len()).all(|set| game.first_node(set).is_some())
+    game.first_nodes.iter().all(|first| first.is_some())
 }
 
 /// Any two nodes of a set have the same own sequence of the set's player.

@@ -2,12 +2,12 @@
 
 use super::{InfoSet, Kind, Node, Player};
 use crate::bits::{from_twos_complement, BitReader};
+use crate::limits::MOST_MOVES;
 use crate::{require, Refusal};
 
 const EDITION: u64 = 1;
 const HEADER_BYTES: usize = 5;
 const NODE_BYTES: usize = 8;
-pub(super) const MOST_MOVES: usize = 64;
 
 /// The parts of a file that passes checks 1 to 6.
 pub(super) struct Parts {

@@ -1,4 +1,4 @@
--- Each player's part of the leaves, and the other as his opponent.
+-- Each player's part of the leaves, and the other's weights.
 use native.Mathlib.Omega.{arith}
 use borrow.Author.Needs.{needs}
 use mathlib.Core.Path.{_∙_}
@@ -7,7 +7,7 @@ use mir.Facts.{toZ-ofZ}
 use Rattle.model.specs.Game.{gameOf, one, two}
 use Rattle.model.proofs.Budget.{game-limits}
 use Rattle.gather.proofs.LeafColumns.{player-leaves}
-use Rattle.form.proofs.PairBudget.{opponent1, opponent2}
+use Rattle.form.proofs.PairBudget.{weights1, weights2}
 use Rattle.form.proofs.Evaluating.{counts-first, counts-second, pair-value-ready, pair-value, values-are}
 use Rattle.form.proofs.evaluate.of_gathered.Statement.{statement}
 use Rattle.form.proofs.evaluate.of_gathered.Tie as tie
@@ -29,14 +29,14 @@ player-best-requires c κs =
     let s = c .before .before .before .before .before .before .before .before .before .before .before .before .before .before .before .before .before in
     let game = s .args .game .now in
     let q = s .pre in
-    (q .0, q .1, omega arith, c .before .index .ensures ∙ counts-first _ _ (q .2), player-leaves (gameOf game) one (q .3), opponent1 (gameOf game) (q .1) (game-limits game) (q .5), q .4, q .6)
+    (q .0, q .1, omega arith, c .before .index .ensures ∙ counts-first _ _ (q .2), player-leaves (gameOf game) one (q .3), weights2 (gameOf game) (q .1) (game-limits game) (q .5), q .4, q .6)
 
 player-best-requires-2 : tie.Need-player-best-requires-2
 player-best-requires-2 c κs =
     let s = c .before .before .before .before .before .before .before .before .before .before .before .before .before .before .before .before .before .before .before .before .before .before in
     let game = s .args .game .now in
     let q = s .pre in
-    (q .0, q .1, omega arith, c .before .index2 .ensures ∙ counts-second _ _ (q .2), player-leaves (gameOf game) two (q .3), opponent2 (gameOf game) (q .1) (game-limits game) (q .5), q .4, q .7)
+    (q .0, q .1, omega arith, c .before .index2 .ensures ∙ counts-second _ _ (q .2), player-leaves (gameOf game) two (q .3), weights1 (gameOf game) (q .1) (game-limits game) (q .5), q .4, q .7)
 
 returns : tie.Need-returns
 returns c =

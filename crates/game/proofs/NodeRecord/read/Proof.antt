@@ -39,7 +39,7 @@ use denote.Triple.Walked.{says, needs, Stays, stay-none, stay-none-slice, walkOf
 use denote.Exit.{yes}
 use Rattle.model.specs.Bits.{field}
 use Rattle.model.specs.Game.{nodeAt}
-use Rattle.reader.specs.Readers.{readerAt, past}
+use Rattle.reader.specs.Readers.{readerAt}
 use Rattle.reader.proofs.Reader.new.Symbol as new-def
 use Rattle.reader.proofs.Reader.new.Symbol.{name as #new}
 use Rattle.reader.proofs.Reader.new.Met as new-thm
@@ -49,7 +49,8 @@ use Rattle.reader.proofs.Reader.next.Met as next-thm
 use Rattle.reader.proofs.Reader.position.Symbol as position-def
 use Rattle.reader.proofs.Reader.position.Symbol.{name as #position}
 use Rattle.reader.proofs.Reader.position.Met as position-thm
-use Rattle.reader.proofs.Taking.{New, Next, Position, Own, Slice, lands-as, starts, takes, stands}
+use Rattle.reader.proofs.Standing.{Position, stands}
+use Rattle.reader.proofs.Taking.{New, Next, Slice, lands-as, starts, takes}
 use Rattle.game.specs.Records.{NodeRead, payloadOf}
 use Rattle.game.specs.declared.NodeRecord.{NodeRecord}
 use Rattle.game.specs.declared.Payload.{Payload}

@@ -3,10 +3,10 @@ use Prim.Native.Nat.{_≤_, _-_}
 use mathlib.Core.Path.{_≡_, ap, _∙_}
 use native.Mathlib.Omega.{arith}
 use lib.ListN.{length}
+use Rattle.algebra.specs.Arrays.{over}
+use Rattle.algebra.proofs.Fillings.{length-over, over-none, over-more}
 use Rattle.model.specs.Game.{gameOf, playerOf}
 use Rattle.model.specs.Table.{ownNumber}
-use Rattle.game.specs.Answers.{over}
-use Rattle.game.proofs.Loops.{length-over, over-none, over-more}
 use Rattle.game.proofs.Own.{last-numbered, last-number}
 use Rattle.game.proofs.recall.own_numbers.Statement.{statement}
 use Rattle.game.proofs.recall.own_numbers.Tie as tie

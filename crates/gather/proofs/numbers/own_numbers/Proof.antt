@@ -1,9 +1,8 @@
 -- Each slice holds what it was filled with.
 use native.Mathlib.Omega.{arith}
-use borrow.Author.Needs.{needs}
+use Rattle.algebra.proofs.Fillings.{filled}
 use Rattle.game.proofs.Headers.{header-nodes, header-sets, header-framed}
 use Rattle.game.proofs.NodeTests.{few-sets}
-use Rattle.game.proofs.Recalls.{filled}
 use Rattle.game.proofs.Rooted.{rules-rooted}
 use Rattle.gather.proofs.numbers.own_numbers.Statement.{statement}
 use Rattle.gather.proofs.numbers.own_numbers.Tie as tie

@@ -4,9 +4,9 @@ use mathlib.Core.Path.{_≡_, _∙_}
 use borrow.Author.Needs.{needs}
 use native.Mathlib.Omega.{arith}
 use lib.ListN.{length}
+use Rattle.algebra.proofs.Fillings.{Filling, filling-none, filling-more, filling-long, filling-all}
 use Rattle.model.specs.Game.{gameOf}
-use Rattle.game.specs.Columns.{playerField}
-use Rattle.game.proofs.Fillings.{Filling, filling-none, filling-more, filling-long, filling-all}
+use Rattle.model.specs.Writing.{playerField}
 use Rattle.game.proofs.NodeTests.{few-sets}
 use Rattle.game.proofs.Columns.{set-player}
 use Rattle.gather.proofs.sets.entries.Statement.{statement}

@@ -1,9 +1,9 @@
 -- Each call fills its own slices; the leading sequences are read from what the others filled.
 use native.Mathlib.Omega.{arith}
 use borrow.Author.Needs.{needs}
+use Rattle.algebra.proofs.Fillings.{filled}
 use Rattle.game.proofs.Headers.{header-sets, header-framed}
 use Rattle.game.proofs.NodeTests.{few-sets}
-use Rattle.game.proofs.Recalls.{filled}
 use Rattle.game.proofs.Rooted.{rules-rooted}
 use Rattle.gather.proofs.SetColumns.{copied-holds, node-below, leads-held}
 use Rattle.gather.proofs.sets.gather.Statement.{statement}

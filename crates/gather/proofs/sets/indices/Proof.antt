@@ -2,8 +2,8 @@
 use Prim.Native.Nat.{_-_}
 use native.Mathlib.Omega.{arith}
 use borrow.Author.Needs.{needs}
+use Rattle.algebra.proofs.Fillings.{Filling, filling-none, filling-more, filling-long, filling-all}
 use Rattle.model.specs.Writing.{entry}
-use Rattle.game.proofs.Fillings.{Filling, filling-none, filling-more, filling-long, filling-all}
 use Rattle.gather.proofs.sets.indices.Statement.{statement}
 use Rattle.gather.proofs.sets.indices.Tie as tie
 

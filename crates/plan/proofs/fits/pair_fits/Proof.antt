@@ -1,9 +1,9 @@
 -- The tables hold what they were filled with; each player's answer is that of his plan, and check 16 is that of both.
 use native.Mathlib.Omega.{arith}
 use borrow.Author.Needs.{needs}
+use Rattle.algebra.proofs.Fillings.{filled}
 use Rattle.game.proofs.NodeTests.{few-sets}
 use Rattle.game.proofs.Headers.{header-sets, header-framed}
-use Rattle.game.proofs.Recalls.{filled}
 use Rattle.game.proofs.Rooted.{rules-rooted}
 use Rattle.plan.proofs.Balance.{pair-broken, pair-second}
 use Rattle.plan.proofs.fits.pair_fits.Statement.{statement}

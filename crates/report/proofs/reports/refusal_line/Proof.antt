@@ -1,4 +1,4 @@
--- The line is put into a buffer that is long enough, and given from there.
+-- The line is put into a buffer that is long enough, and given from there. The answer stands before what the calls ask.
 use Prim.Native.Nat.{_≤_}
 use mathlib.Core.Path.{sym}
 use native.Mathlib.Omega.{arith}
@@ -11,6 +11,11 @@ use Rattle.report.proofs.Calls.{line-refusal}
 use Rattle.report.proofs.reports.refusal_line.Statement.{statement}
 use Rattle.report.proofs.reports.refusal_line.Tie as tie
 
+returns : tie.Need-returns
+returns c =
+    let a = c .before .before .before .before .before .before .before .before .before .args in
+    rw (line-refusal (a .number) (length (a .out .now))) (rw (put-read (c .before .before .before .before .before .before .put-refusal .ensures)) at (c .before .before .give .ensures))
+
 put-refusal-requires : tie.Need-put-refusal-requires
 put-refusal-requires c κs = let s = c .before .before in record { fits = omega (arith, refusal-line-length (s .args .number) (s .fits .number .fits)) }
 
@@ -19,11 +24,6 @@ within : (c : tie.After-put-refusal) → c .put-refusal .result ≤ length (c .p
 within c =
     let s = c .before .before .before in
     omega (arith, c .put-refusal .kept, c .put-refusal .ensures .place, refusal-line-length (s .args .number) (s .fits .number .fits))
-
-returns : tie.Need-returns
-returns c =
-    let a = c .before .before .before .before .before .before .before .before .before .args in
-    rw (line-refusal (a .number) (length (a .out .now))) (rw (put-read (c .before .before .before .before .before .before .put-refusal .ensures)) at (c .before .before .give .ensures))
 
 pub refusal-line-spec : {M : Type 1} → statement M
 refusal-line-spec =

@@ -2,19 +2,20 @@
 use native.Mathlib.Omega.{arith}
 use native.Mathlib.Nat as NatL
 use borrow.Author.Needs.{needs}
-use Rattle.report.specs.Whole.{basesOf}
+use Rattle.report.proofs.Wholes.{bases-are}
 use Rattle.report.proofs.whole.bases.Statement.{statement}
 use Rattle.report.proofs.whole.bases.Tie as tie
+
+returns : tie.Need-returns
+returns c =
+    let p = c .before .before .before .before .before .before .before .args .pair in
+    bases-are (p .header .«root_weight») (p .denominators .first) (p .denominators .second) (c .before .before .before .before .base .ensures)
 
 mul-t5 : tie.Need-mul-t5
 mul-t5 c = let p = c .before .before .before .before .before .pre in omega (arith, NatL.mul-le-mul (p .root-few) (p .first-few), NatL.mul-le-mul (p .root-few) (p .second-few))
 
 mul-t6 : tie.Need-mul-t6
 mul-t6 c = let p = c .before .before .before .before .before .before .before .pre in omega (arith, NatL.mul-le-mul (p .root-few) (p .first-few), NatL.mul-le-mul (p .root-few) (p .second-few))
-
-returns : tie.Need-returns
-unfolding basesOf
-returns c = rw (c .before .before .before .before .base .ensures)
 
 pub bases-spec : {M : Type 1} → statement M
 bases-spec = tie.close (tie.spec (λ c κs. search needs) mul-t5 mul-t6 returns)

@@ -3,8 +3,8 @@ use Prim.Native.Nat.{ℕ}
 use mathlib.Core.List.{List}
 use borrow.Author.Needs.{needs}
 use mir.Facts.{toZ-ofZ}
-use Rattle.model.specs.Game.{gameOf, playerOf}
-use Rattle.model.specs.Report.{ascii, playerNumber}
+use Rattle.model.specs.Game.{gameOf, playerOf, playerNumber}
+use Rattle.model.specs.Report.{ascii}
 use Rattle.text.specs.Lines.{fraction, amountLine}
 use Rattle.report.specs.Whole.{deviationText, strategyLines}
 use Rattle.text.proofs.Puts.{room-first, room-then, put-then}

@@ -1,4 +1,4 @@
--- One text for each case of the verdict.
+-- One text for each case of the verdict. The answers stand before what their calls ask.
 use native.Mathlib.Omega.{arith}
 use borrow.Author.Needs.{needs}
 use mir.Syntax.{w64}
@@ -9,11 +9,6 @@ use Rattle.report.proofs.Wholes.{text-accepted, text-first, text-second
 use Rattle.report.proofs.whole.put_verdict.Statement.{statement}
 use Rattle.report.proofs.whole.put_verdict.Tie as tie
 
-put-accepted-requires : tie.Need-put-accepted-requires
-put-accepted-requires c κs =
-    let s = c .before .before .before .before .before .before .before in
-    rw (text-accepted (gameOf (s .args .game .now)) (s .args .base) (s .args .moves1 .now) (s .args .moves2 .now) (c .before .enum-told .given .1)) at (s .pre .4)
-
 returns : tie.Need-returns
 returns c =
     let a = c .before .before .before .before .before .before .before .before .before .before .args in
@@ -23,29 +18,34 @@ returns c =
 gain-fits : (c : tie.After-known-told) → SFits w64 (c .before .verdict .given .0 .1 .0)
 gain-fits c = search needs
 
-put-deviation-requires : tie.Need-put-deviation-requires
-put-deviation-requires c κs =
-    let s = c .before .before .before .before .before .before .before .before .before in
-    let text = text-first (gameOf (s .args .game .now)) (s .args .base) (s .args .moves1 .now) (s .args .moves2 .now) (c .before .before .before .verdict .given .1) (c .before .if1 .taken) in
-    rw (toZ-ofZ (gain-fits (c .before .before))) (s .pre .0, search needs, omega (arith, s .pre .1, s .pre .2), s .pre .3, rw text at (s .pre .4))
-
 returns-2 : tie.Need-returns-2
 returns-2 c =
     let a = c .before .before .before .before .before .before .before .before .before .before .before .before .args in
     let text = text-first (gameOf (a .game .now)) (a .base) (a .moves1 .now) (a .moves2 .now) (c .before .before .before .before .before .before .verdict .given .1) (c .before .before .before .before .if1 .taken) in
     rw text (rw (toZ-ofZ (gain-fits (c .before .before .before .before .before))) at (c .before .before .put-deviation .ensures))
 
-put-deviation-requires-2 : tie.Need-put-deviation-requires-2
-put-deviation-requires-2 c κs =
-    let s = c .before .before .before .before .before .before .before .before .before in
-    let text = text-second (gameOf (s .args .game .now)) (s .args .base) (s .args .moves1 .now) (s .args .moves2 .now) (c .before .before .before .verdict .given .1) (c .before .if1 .left) in
-    rw (toZ-ofZ (gain-fits (c .before .before))) (s .pre .0, search needs, omega (arith, s .pre .1, s .pre .2), s .pre .3, rw text at (s .pre .4))
-
 returns-3 : tie.Need-returns-3
 returns-3 c =
     let a = c .before .before .before .before .before .before .before .before .before .before .before .before .args in
     let text = text-second (gameOf (a .game .now)) (a .base) (a .moves1 .now) (a .moves2 .now) (c .before .before .before .before .before .before .verdict .given .1) (c .before .before .before .before .if1 .left) in
     rw text (rw (toZ-ofZ (gain-fits (c .before .before .before .before .before))) at (c .before .before .put-deviation2 .ensures))
+
+put-accepted-requires : tie.Need-put-accepted-requires
+put-accepted-requires c κs =
+    let s = c .before .before .before .before .before .before .before in
+    rw (text-accepted (gameOf (s .args .game .now)) (s .args .base) (s .args .moves1 .now) (s .args .moves2 .now) (c .before .enum-told .given .1)) at (s .pre .4)
+
+put-deviation-requires : tie.Need-put-deviation-requires
+put-deviation-requires c κs =
+    let s = c .before .before .before .before .before .before .before .before .before in
+    let text = text-first (gameOf (s .args .game .now)) (s .args .base) (s .args .moves1 .now) (s .args .moves2 .now) (c .before .before .before .verdict .given .1) (c .before .if1 .taken) in
+    rw (toZ-ofZ (gain-fits (c .before .before))) (s .pre .0, search needs, omega (arith, s .pre .1, s .pre .2), s .pre .3, rw text at (s .pre .4))
+
+put-deviation-requires-2 : tie.Need-put-deviation-requires-2
+put-deviation-requires-2 c κs =
+    let s = c .before .before .before .before .before .before .before .before .before in
+    let text = text-second (gameOf (s .args .game .now)) (s .args .base) (s .args .moves1 .now) (s .args .moves2 .now) (c .before .before .before .verdict .given .1) (c .before .if1 .left) in
+    rw (toZ-ofZ (gain-fits (c .before .before))) (s .pre .0, search needs, omega (arith, s .pre .1, s .pre .2), s .pre .3, rw text at (s .pre .4))
 
 pub put-verdict-spec : {M : Type 1} → statement M
 put-verdict-spec =

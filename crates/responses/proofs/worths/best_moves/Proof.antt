@@ -2,7 +2,7 @@
 use Prim.Native.Nat.{_-_}
 use native.Mathlib.Omega.{arith}
 use borrow.Author.Needs.{needs}
-use Rattle.game.proofs.Fillings.{Filling, filling-none, filling-more, filling-long, filling-all}
+use Rattle.algebra.proofs.Fillings.{Filling, filling-none, filling-more, filling-long, filling-all}
 use Rattle.responses.specs.BestMoves.{bestOf}
 use Rattle.responses.proofs.Greatest.{stored-below}
 use Rattle.responses.proofs.worths.best_moves.Statement.{statement}

@@ -8,8 +8,8 @@ use lib.IntN.{_+ℤ_}
 use mir.Syntax.{w64}
 use mir.Val.{SFits, toZ, ofZ}
 use mir.Facts.{toZ-ofZ}
+use Rattle.algebra.specs.Arrays.{over}
 use Rattle.model.specs.Writing.{entry, entryZ}
-use Rattle.game.specs.Answers.{over}
 use Rattle.slices.specs.Sums.{opponentTerm, sumAt}
 use Rattle.slices.proofs.SumLoops.{summing-none, summing-more, summing-long, summing-fits, summing-all}
 use Rattle.slices.proofs.sums.sums.Statement.{statement}

@@ -18,13 +18,19 @@ gain2-is : (c : tie.After-gain2) → let a = c .before .before .before .args in 
 gain2-is c = toZ-ofZ {w = w64} {z = c .gain2 .result} (record { sfits = c .gain2 .ok }) ∙ rw (toZ-ofZ (c .before .before .before .fits .best2), toZ-ofZ (c .before .before .before .fits .value2)) at (c .gain2 .ensures)
 
 returns : tie.Need-returns
-returns c = first-gains _ _ _ _ _ _ _ (gain1-is (c .before)) (c .if1 .taken)
+returns c =
+    let a = c .before .before .args in
+    first-gains (a .value1) (a .value2) (a .best1) (a .best2) (a .d1) (a .d2) _ (gain1-is (c .before)) (c .if1 .taken)
 
 returns-2 : tie.Need-returns-2
-returns-2 c = second-gains _ _ _ _ _ _ _ _ (gain1-is (c .before .before .before)) (gain2-is (c .before)) (c .before .before .if1 .left) (c .if2 .taken)
+returns-2 c =
+    let a = c .before .before .before .before .args in
+    second-gains (a .value1) (a .value2) (a .best1) (a .best2) (a .d1) (a .d2) _ _ (gain1-is (c .before .before .before)) (gain2-is (c .before)) (c .before .before .if1 .left) (c .if2 .taken)
 
 returns-3 : tie.Need-returns-3
-returns-3 c = none-gains _ _ _ _ _ _ _ _ (gain1-is (c .before .before .before)) (gain2-is (c .before)) (c .before .before .if1 .left) (c .if2 .left)
+returns-3 c =
+    let a = c .before .before .before .before .args in
+    none-gains (a .value1) (a .value2) (a .best1) (a .best2) (a .d1) (a .d2) _ _ (gain1-is (c .before .before .before)) (gain2-is (c .before)) (c .before .before .if1 .left) (c .if2 .left)
 
 pub judge-spec : {M : Type 1} → statement M
 judge-spec = tie.close (tie.spec (λ c κs. search needs) returns (λ c κs. search needs) returns-2 returns-3)

@@ -5,7 +5,7 @@ use borrow.Author.Needs.{needs}
 use lib.ListN.{length}
 use Rattle.writers.specs.GameWriter.{nodeLists}
 use Rattle.writers.proofs.Passes.{Passed, passed-none, passed-more, passed-not, passed-all}
-use Rattle.writers.proofs.Words.{kindFitsAt, kind-made}
+use Rattle.writers.proofs.Nodes.{kindFitsAt, kind-made}
 use Rattle.writers.proofs.fields.kinds_fit.Statement.{statement}
 use Rattle.writers.proofs.fields.kinds_fit.Tie as tie
 

@@ -6,19 +6,22 @@ use native.Mathlib.Omega.{arith}
 use borrow.Author.Tests.{ltb-true, ltb-false, lt-ltb, le-ltb}
 use lib.Dec.{leb, ltb, leb→le, le→leb, ltb→lt, lt→ltb}
 use lib.IntN.{ℤ, pos, negsuc}
-use lib.Signed.{mag, leZ, ltZ}
+use lib.Signed.{leZ, ltZ}
 use mir.Facts.{toZ-ofZ}
 use Rattle.algebra.proofs.Tests.{bool-same}
+use Rattle.model.specs.Writing.{fitsSigned}
 use Rattle.writers.proofs.fit.fits_signed.Statement.{statement}
 use Rattle.writers.proofs.fit.fits_signed.Tie as tie
 
 -- below the least
-too-small : (z : ℤ) → ltZ z (negsuc 32767) ≡ true → false ≡ ltb (2 * mag z) (2 ^ 16)
+too-small : (z : ℤ) → ltZ z (negsuc 32767) ≡ true → false ≡ fitsSigned 16 z
+unfolding fitsSigned
 too-small (pos n) e = absurd (false≢true e)
 too-small (negsuc n) e = sym (le-ltb (2 * n) (2 ^ 16) (omega (arith, ltb-true 32767 n e)))
 
 -- at least the least
-large-enough : (z : ℤ) → ltZ z (negsuc 32767) ≡ false → leZ z (pos 32767) ≡ ltb (2 * mag z) (2 ^ 16)
+large-enough : (z : ℤ) → ltZ z (negsuc 32767) ≡ false → leZ z (pos 32767) ≡ fitsSigned 16 z
+unfolding fitsSigned
 large-enough (pos n) e = bool-same (leb n 32767) (ltb (2 * n) (2 ^ 16)) (λ t. lt→ltb (2 * n) (2 ^ 16) (omega (arith, leb→le n 32767 t))) (λ t. le→leb n 32767 (omega (arith, ltb→lt (2 * n) (2 ^ 16) t)))
 large-enough (negsuc n) e = sym (lt-ltb (2 * n) (2 ^ 16) (omega (arith, ltb-false 32767 n e)))
 

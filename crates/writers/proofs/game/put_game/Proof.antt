@@ -1,8 +1,8 @@
 -- The header, the set entries and the node records, each where the last one ends, are the file.
+use native.Mathlib.Omega.{arith}
 use borrow.Author.Needs.{needs}
-use Rattle.model.specs.Writing.{GameFields, setCount, nodeCount}
+use Rattle.model.specs.Writing.{GameFields, setCount, gameFields}
 use Rattle.model.proofs.Fitting.{Fitting}
-use Rattle.writers.specs.GameWriter.{gameFields}
 use Rattle.writers.proofs.Given.{fitting, sets-fit, nodes-fit}
 use Rattle.writers.proofs.GameFiles.{game-put}
 use Rattle.writers.proofs.game.put_game.Statement.{statement}
@@ -17,27 +17,27 @@ given c =
 fits : (c : tie.Start) → Fitting (given c)
 fits c = fitting (given c) (c .pre .0)
 
-header-fits : tie.Need-word-requires
-unfolding setCount nodeCount
-header-fits c κs = let f = fits (c .before .before .before .before .before .before .before .before .before .before) in (f .nodes, f .sets, f .rootWeight)
-
 all-put : tie.Need-returns
 all-put c =
-    let start = c .before .before .before .before .before .before .before .before .before .before .before .before .before .before .before .before .before .before .before .before .before .before in
-    game-put (given start) (start .args .out .now) (c .before .before .before .before .before .before .before .before .before .before .before .word .result)
-    (c .before .before .before .before .before .before .before .before .before .before .before .word .ensures)
-    (c .before .before .before .before .before .before .before .before .before .before .put-word .ensures)
+    let start = c .before .before .before .before .before .before .before .before .before .before .before .before .before .before .before .before .before .before .before .before .before in
+    game-put (given start) (start .args .out .now)
+    (c .before .before .before .before .before .before .before .before .before .before .put .ensures)
     (c .before .before .before .before .before .before .put-sets .ensures)
     (c .before .before .put-nodes .ensures)
+
+nodes-fit-there : tie.Need-put-nodes-requires
+unfolding setCount
+nodes-fit-there c κs =
+    let f = fits (c .before .before .before .before .before .before .before .before .before .before .before .before .before .before .before .before .before .before) in
+    (nodes-fit _ f, omega (arith, f .sets), search needs)
 
 pub put-game-spec : {M : Type 1} → statement M
 put-game-spec =
     tie.close
     (tie.spec
     (λ c. search needs)
-    header-fits
     (λ c κs. search needs)
-    (λ c κs. (sets-fit _ (fits (c .before .before .before .before .before .before .before .before .before .before .before .before .before .before .before)), search needs))
-    (λ c κs. (nodes-fit _ (fits (c .before .before .before .before .before .before .before .before .before .before .before .before .before .before .before .before .before .before .before)), search needs))
+    (λ c κs. (sets-fit _ (fits (c .before .before .before .before .before .before .before .before .before .before .before .before .before .before)), search needs))
+    nodes-fit-there
     (λ c. search needs)
     all-put)

@@ -5,7 +5,7 @@ use native.Mathlib.Omega.{arith}
 use lib.ListN.{length}
 use Rattle.model.specs.Writing.{nodeBits}
 use Rattle.writers.specs.GameWriter.{nodeLists}
-use Rattle.writers.proofs.Words.{node-width, word-made}
+use Rattle.writers.proofs.Nodes.{node-width, record-made}
 use Rattle.writers.proofs.Puttings.{Putting, putting-none, putting-long, putting-more, putting-all}
 use Rattle.writers.proofs.game.put_nodes.Statement.{statement}
 use Rattle.writers.proofs.game.put_nodes.Tie as tie
@@ -20,13 +20,16 @@ abbrev μ-loop : tie.MeasureT-loop
 long : (c : tie.At-loop Inv-loop μ-loop) → length (c .loop .out) ≡ length (c .before .before .before .before .before .before .before .before .args .out .now)
 long c = putting-long _ 8 _ (node-width _) _ _ (omega arith) _ _ (c .loop .inv)
 
-fits : tie.Need-word-requires Inv-loop μ-loop
-fits c κs = rw (c .before .at .ensures) (c .before .before .before .before .before .before .before .before .before .before .before .pre .0 .each (c .before .before .before .loop .n) (omega arith))
+fits : tie.Need-put-requires Inv-loop μ-loop
+fits c κs =
+    let start = c .before .before .before .before .before .before .before .before .before .before .before in
+    let n = c .before .before .before .loop .n in
+    (rw (c .before .at .ensures) (start .pre .0 .each n (omega arith)), omega (arith, start .pre .0 .few), omega (arith, long (c .before .before .before)))
 
 again : tie.Need-loop-again Inv-loop μ-loop
 again c =
-    let l = c .before .before .before .before .before .before .before in
-    putting-more _ 8 _ (node-width _) _ _ (omega arith) _ _ (l .loop .inv) _ _ _ (omega arith) refl (word-made _ _ _ _ (c .before .before .before .before .before .at .ensures) (c .before .before .before .word .ensures)) (c .before .before .put-word .ensures)
+    let l = c .before .before .before .before .before .before in
+    putting-more _ 8 _ (node-width _) _ _ (omega arith) _ _ (l .loop .inv) _ _ _ (omega arith) refl (record-made _ _ _ (c .before .before .before .before .at .ensures)) (c .before .before .put .ensures)
 
 pub put-nodes-spec : {M : Type 1} → statement M
 put-nodes-spec =
@@ -39,7 +42,6 @@ put-nodes-spec =
     (λ c. omega arith)
     (λ c. omega arith)
     fits
-    (λ c κs. omega (arith, long (c .before .before .before .before)))
     (λ c. omega arith)
     (λ c. omega arith)
     again

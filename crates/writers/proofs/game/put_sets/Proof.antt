@@ -1,11 +1,11 @@
 -- The invariant: the entries of the sets before `h` are put.
 use Prim.Native.Nat.{_+_, _-_}
-use mathlib.Core.Path.{_≡_}
+use mathlib.Core.Path.{_≡_, refl}
 use native.Mathlib.Omega.{arith}
 use lib.ListN.{length}
 use Rattle.model.specs.Writing.{setBits}
 use Rattle.writers.specs.GameWriter.{setLists}
-use Rattle.writers.proofs.Words.{set-width}
+use Rattle.writers.proofs.Nodes.{set-width}
 use Rattle.writers.proofs.Puttings.{Putting, putting-none, putting-long, putting-more, putting-all}
 use Rattle.writers.proofs.game.put_sets.Statement.{statement}
 use Rattle.writers.proofs.game.put_sets.Tie as tie
@@ -22,9 +22,9 @@ long c = putting-long 5 1 _ (set-width _) _ _ (omega arith) _ _ (c .loop .inv)
 again : tie.Need-loop-again Inv-loop μ-loop
 unfolding setBits
 again c =
-    let l = c .before .before .before .before .before .before .before .before in
+    let l = c .before .before .before .before .before .before .before in
     let a = l .before .before .before .before .args in
-    putting-more 5 1 _ (set-width (setLists 0 (a .set-players .now) (a .set-moves .now))) _ _ (omega arith) _ _ (l .loop .inv) (5 + l .loop .h) _ _ (omega arith) (omega arith) (c .before .before .before .word .ensures) (c .before .before .put-word .ensures)
+    putting-more 5 1 _ (set-width (setLists 0 (a .set-players .now) (a .set-moves .now))) _ _ (omega arith) _ _ (l .loop .inv) (5 + l .loop .h) _ _ (omega arith) (omega arith) refl (c .before .before .put .ensures)
 
 pub put-sets-spec : {M : Type 1} → statement M
 put-sets-spec =
@@ -38,8 +38,7 @@ put-sets-spec =
     (λ c. omega arith)
     (λ c. omega arith)
     (λ c. omega arith)
-    (λ c κs. let t = c .before .before .before .before .before .before .before .before .pre .0 in let h = c .before .before .before .before .loop .h in (t .player h, t .moves h))
-    (λ c κs. omega (arith, long (c .before .before .before .before .before)))
+    (λ c κs. (omega (arith, c .before .before .before .before .before .before .before .before .pre .0 .few), omega (arith, long (c .before .before .before .before))))
     (λ c. omega arith)
     (λ c. omega arith)
     again

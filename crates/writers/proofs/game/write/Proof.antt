@@ -1,7 +1,6 @@
 -- 17 comes first, then 18; with room for the file it is written.
 use borrow.Author.Needs.{needs}
-use Rattle.model.specs.Writing.{GameFields, gameFieldsFit}
-use Rattle.writers.specs.GameWriter.{gameFields}
+use Rattle.model.specs.Writing.{GameFields, gameFieldsFit, gameFields}
 use Rattle.writers.proofs.Refusals.{is-fine, has-room}
 use Rattle.writers.proofs.GameFiles.{game-misfit, game-short, game-written}
 use Rattle.writers.proofs.game.write.Statement.{statement}

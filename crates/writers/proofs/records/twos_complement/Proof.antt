@@ -1,25 +1,27 @@
 -- The two cases of the model's `twosComplement`, by the integer's sign.
-use Prim.Native.Nat.{_*_, _-_, _^_, _<_, suc}
+use Prim.Native.Nat.{_*_, _-_, _^_, suc}
 use mathlib.Core.Path.{_≡_, refl, ap}
 use mathlib.Core.Bool.{true, false, true≢false}
 use native.Mathlib.Omega.{arith}
 use borrow.Author.Tests.{ltb-true}
+use lib.Dec.{T, ltb→lt}
 use lib.IntN.{ℤ, pos, negsuc, natAbs, _+ℤ_}
-use lib.Signed.{mag, ltZ}
+use lib.Signed.{ltZ}
 use mir.Syntax.{w64}
 use mir.Val.{toZ, ofZ}
 use mir.Facts.{toZ-ofZ, toZ-pos}
 use Rattle.algebra.proofs.Integers.{to-eq, add-is}
 use Rattle.model.specs.Bits.{twosComplement}
+use Rattle.model.specs.Writing.{fitsSigned}
 use Rattle.model.proofs.Bits.{twos-fits}
 use Rattle.writers.proofs.records.twos_complement.Statement.{statement}
 use Rattle.writers.proofs.records.twos_complement.Tie as tie
 
 -- a negative number
-lifted : (z : ℤ) → ltZ z (pos 0) ≡ true → 2 * mag z < 2 ^ 16 → pos 65536 +ℤ z ≡ pos (twosComplement 16 z)
-unfolding twosComplement
-lifted (pos n) e l = absurd (omega (arith, ltb-true n 0 e))
-lifted (negsuc n) e l = to-eq (pos 65536 +ℤ negsuc n) (pos (65536 - suc n)) (omega (arith, add-is (pos 65536) (negsuc n)))
+lifted : (z : ℤ) → ltZ z (pos 0) ≡ true → T (fitsSigned 16 z) → pos 65536 +ℤ z ≡ pos (twosComplement 16 z)
+unfolding twosComplement fitsSigned
+lifted (pos n) e t = absurd (omega (arith, ltb-true n 0 e))
+lifted (negsuc n) e t = to-eq (pos 65536 +ℤ negsuc n) (pos (65536 - suc n)) (omega (arith, ltb→lt (2 * n) (2 ^ 16) t, add-is (pos 65536) (negsuc n)))
 
 -- any other
 kept : (z : ℤ) → ltZ z (pos 0) ≡ false → z ≡ pos (twosComplement 16 z)

@@ -4,7 +4,7 @@ use mir.Syntax.{w64}
 use mir.Val.{SFits}
 use mir.Facts.{toZ-ofZ}
 use Rattle.model.specs.Writing.{kindFits}
-use Rattle.writers.proofs.Words.{no-kind}
+use Rattle.writers.proofs.Nodes.{no-kind}
 use Rattle.writers.proofs.records.NodeRecord.kind_fits.Statement.{statement}
 use Rattle.writers.proofs.records.NodeRecord.kind_fits.Tie as tie
 
