@@ -1,7 +1,8 @@
 //! The proved library's writers against the independent ones, and round trips through
 //! the library alone.
 
-use desk::{check_game, game_fields, plain, plan_fields, write_game, write_plan};
+use desk::plain::write::{write_game as plain_game, write_plan as plain_plan, ByFields, ByWord};
+use desk::{check_game, game_fields, plan_fields, write_game, write_plan};
 use desk::{Buffers, Output, PlanBuffers, Refusal};
 use generator::fields::{fitting_fields, spoilt_fields};
 use generator::games::random_game;
@@ -49,7 +50,7 @@ fn compare_room(write: Write, wanted: &Result<Vec<u8>, Refusal>, room: usize) {
 }
 
 /// In buffers exactly long enough, longer, one short and empty; the refusal, or 0.
-fn compare(writers: [Write; 2], wanted: &Result<Vec<u8>, Refusal>, longest: usize) -> Refusal {
+fn compare(writers: [Write; 3], wanted: &Result<Vec<u8>, Refusal>, longest: usize) -> Refusal {
     for write in writers {
         match wanted {
             Ok(file) => {
@@ -67,7 +68,7 @@ fn compare(writers: [Write; 2], wanted: &Result<Vec<u8>, Refusal>, longest: usiz
     wanted.as_ref().err().copied().unwrap_or(0)
 }
 
-/// A game through both the library and plain Rust.
+/// A game through the library and plain Rust, whose benchmarks must write the same.
 fn compare_game(tables: &GameTables) -> Refusal {
     let fields = Buffers::of(&tables.fields);
     let longest = 5 + fields.set_players.len() + 8 * fields.kinds.len();
@@ -75,8 +76,9 @@ fn compare_game(tables: &GameTables) -> Refusal {
         reference::writer::write_game(tables.root_weight, &tables.fields, bytes)
     });
     let library = |out: &mut Output| write_game(tables.root_weight, &fields, out);
-    let plain = |out: &mut Output| plain::write::write_game(tables.root_weight, &fields, out);
-    compare([&library, &plain], &wanted, longest + 8)
+    let by_fields = |out: &mut Output| plain_game::<ByFields>(tables.root_weight, &fields, out);
+    let by_word = |out: &mut Output| plain_game::<ByWord>(tables.root_weight, &fields, out);
+    compare([&library, &by_fields, &by_word], &wanted, longest + 8)
 }
 
 /// A plan likewise.
@@ -86,8 +88,9 @@ fn compare_plan(d1: u64, d2: u64, weights: &[u64]) -> Refusal {
         reference::writer::write_plan(d1, d2, weights, bytes)
     });
     let library = |out: &mut Output| write_plan(d1, d2, weights, out);
-    let plain = |out: &mut Output| plain::write::write_plan(d1, d2, weights, out);
-    compare([&library, &plain], &wanted, longest + 8)
+    let by_fields = |out: &mut Output| plain_plan::<ByFields>(d1, d2, weights, out);
+    let by_word = |out: &mut Output| plain_plan::<ByWord>(d1, d2, weights, out);
+    compare([&library, &by_fields, &by_word], &wanted, longest + 8)
 }
 
 #[test]

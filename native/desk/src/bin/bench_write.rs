@@ -1,7 +1,8 @@
 //! The writers of full-size files, beside plain Rust by the same method, in one run.
 
+use desk::plain::write::{write_game, write_plan, ByFields, ByWord};
 use desk::timing::{best_of, Run};
-use desk::{plain, Buffers, Output, Refusal};
+use desk::{Buffers, Output, Refusal};
 use generator::games::random_game;
 use generator::large::{most_nodes, most_sets};
 use generator::rng::Rng;
@@ -34,26 +35,25 @@ struct Plan {
 }
 
 /// Writes each of the inputs into the same buffer.
-fn write_all<T>(inputs: &[T], out: &mut Output, write: fn(&T, &mut Output) -> Result<(), Refusal>) {
+fn write_all<T>(inputs: &[T], out: &mut Output, write: Write<T>) {
     for input in inputs {
         assert_eq!(black_box(write(black_box(input), out)), Ok(()));
         black_box(&out.bytes);
     }
 }
 
-fn report<T>(
-    name: &str,
-    inputs: &[T],
-    proved: fn(&T, &mut Output) -> Result<(), Refusal>,
-    same: fn(&T, &mut Output) -> Result<(), Refusal>,
-) {
-    let runs = [proved, same].map(|write| -> Run {
+/// A writer of one input.
+type Write<T> = fn(&T, &mut Output) -> Result<(), Refusal>;
+
+/// Proved, plain Rust by the same method, and plain Rust with a record as one word.
+fn report<T>(name: &str, inputs: &[T], writers: [Write<T>; 3]) {
+    let runs = writers.map(|write| -> Run {
         let mut out = Output::with_room(ROOM);
         Box::new(move || write_all(inputs, &mut out, write))
     });
-    let [proved, same] = best_of(inputs.len(), runs);
+    let [proved, same, words] = best_of(inputs.len(), runs);
     let ratio = proved / same;
-    println!("{name}: proved {proved:.1} us, plain Rust {same:.1} us, ratio {ratio:.2}");
+    println!("{name}: proved {proved:.1} us, plain Rust {same:.1} us, ratio {ratio:.2}, by words {words:.1} us");
 }
 
 fn main() {
@@ -73,13 +73,19 @@ fn main() {
     report(
         "200 games of about 4,095 nodes",
         &games,
-        |game, out| desk::write_game(game.root_weight, &game.fields, out),
-        |game, out| plain::write::write_game(game.root_weight, &game.fields, out),
+        [
+            |game, out| desk::write_game(game.root_weight, &game.fields, out),
+            |game, out| write_game::<ByFields>(game.root_weight, &game.fields, out),
+            |game, out| write_game::<ByWord>(game.root_weight, &game.fields, out),
+        ],
     );
     report(
         "200 plans of 4,094 moves",
         &plans,
-        |plan, out| desk::write_plan(plan.d1, plan.d2, &plan.weights, out),
-        |plan, out| plain::write::write_plan(plan.d1, plan.d2, &plan.weights, out),
+        [
+            |plan, out| desk::write_plan(plan.d1, plan.d2, &plan.weights, out),
+            |plan, out| write_plan::<ByFields>(plan.d1, plan.d2, &plan.weights, out),
+            |plan, out| write_plan::<ByWord>(plan.d1, plan.d2, &plan.weights, out),
+        ],
     );
 }

@@ -1,7 +1,7 @@
 -- The pair's refusal; or the report on what was evaluated and judged.
 use borrow.Author.Needs.{needs}
 use lib.ListN.{length}
-use Rattle.verdict.proofs.Evaluated.{evaluation-opened, evaluation-sent}
+use Rattle.verdict.proofs.Evaluated.{EvaluationOpened, evaluation-opened, evaluation-sent}
 use Rattle.verdict.proofs.Judged.{judge-asks}
 use Rattle.report.proofs.Calls.{refused-given, pair-told, file-most, pair-ready, report-told}
 use Rattle.report.proofs.reports.report.Statement.{statement}
@@ -13,31 +13,26 @@ refused c =
     let s = evaluation-sent (a .game .now) (a .plan .now) (c .before .before .before .before .before .evaluate .ensures .0) (c .before .enum-told .given .1) (c .refusal .ensures) in
     refused-given (a .game .now) (a .plan .now) (a .out .now) (s .0) (s .1)
 
+-- what is known of the pair, once it is taken apart
+opened : (c : tie.After-evaluated) → EvaluationOpened (c .before .before .before .before .before .before .before .before .before .before .args .game .now) (c .before .before .before .before .before .before .before .before .before .before .args .plan .now) (c .evaluated .given .0 .0) (c .evaluated .given .0 .1 .0) (c .before .before .before .before .evaluate .last .1 .1 .0) (c .before .before .before .before .evaluate .last .1 .1 .1 .0)
+opened c = evaluation-opened _ _ (c .before .before .before .before .evaluate .ensures) (c .evaluated .given .1)
+
 judge-requires : tie.Need-judge-requires
 judge-requires c κs =
-    let s = c .before in
-    let a = s .before .before .before .before .before .before .before .before .before .before .args in
-    let g = a .game .now in
-    let p = a .plan .now in
-    let v = evaluation-opened g p (s .before .before .before .before .evaluate .ensures) (s .evaluated .given .1) in
-    judge-asks g p _ (v .opened) (v .values)
+    let v = opened (c .before) in
+    judge-asks _ _ _ (v .opened) (v .values)
 
 tell-requires : tie.Need-tell-requires
 tell-requires c κs =
-    let s = c .before .before .before .before .before in
-    let a = s .before .before .before .before .before .before .before .before .before .before .args in
-    let g = a .game .now in
-    let p = a .plan .now in
-    let v = evaluation-opened g p (s .before .before .before .before .evaluate .ensures) (s .evaluated .given .1) in
-    (pair-ready g p _ (v .opened) (v .best1 .long) (v .best2 .long), rw (report-told g p _ v (c .before .before .before .judge .ensures)) (file-most g p (v .opened .none)))
+    let v = opened (c .before .before .before .before .before) in
+    (pair-ready _ _ _ (v .opened) (v .best1 .long) (v .best2 .long), rw (report-told _ _ _ v (c .before .before .before .judge .ensures)) (file-most _ _ (v .opened .none)))
 
 returns : tie.Need-returns-2
 returns c =
-    let s = c .before .before .before .before .before .before .before .before in
-    let a = s .before .before .before .before .before .before .before .before .before .before .args in
+    let a = c .before .before .before .before .before .before .before .before .before .before .before .before .before .before .before .before .before .before .args in
     let g = a .game .now in
     let p = a .plan .now in
-    let v = evaluation-opened g p (s .before .before .before .before .evaluate .ensures) (s .evaluated .given .1) in
+    let v = opened (c .before .before .before .before .before .before .before .before) in
     rw (pair-told g p (length (a .out .now)) (v .opened .none)) (rw (report-told g p _ v (c .before .before .before .before .before .before .judge .ensures)) at (c .before .before .tell .ensures))
 
 pub report-spec : {M : Type 1} → statement M

@@ -4,7 +4,7 @@ use native.Mathlib.Omega.{arith}
 use borrow.Author.Needs.{needs}
 use Rattle.model.specs.Game.{gameOf, one, two}
 use Rattle.model.specs.Plan.{planPairOf}
-use Rattle.verdict.proofs.Evaluated.{evaluation-opened, evaluation-sent}
+use Rattle.verdict.proofs.Evaluated.{EvaluationOpened, evaluation-opened, evaluation-sent}
 use Rattle.verdict.proofs.Judged.{pair-refused, accepted-given, strategy-given, base-is, base-asks, judge-asks, judged-as, show-asks, first-deviates, second-deviates}
 use Rattle.verdict.proofs.Judging.{says-equilibrium}
 use Rattle.verdict.proofs.verdicts.verdict.Statement.{statement}
@@ -16,71 +16,56 @@ refused c =
     let s = evaluation-sent (a .game .now) (a .plan .now) (c .before .before .before .before .before .evaluate .ensures .0) (c .before .enum-told .given .1) (c .refusal .ensures) in
     pair-refused (a .game .now) (a .plan .now) (a .moves .now) (s .0) (s .1)
 
+-- what is known of the pair, once it is taken apart
+opened : (c : tie.After-evaluated) → EvaluationOpened (c .before .before .before .before .before .before .before .before .before .before .args .game .now) (c .before .before .before .before .before .before .before .before .before .before .args .plan .now) (c .evaluated .given .0 .0) (c .evaluated .given .0 .1 .0) (c .before .before .before .before .evaluate .last .1 .1 .0) (c .before .before .before .before .evaluate .last .1 .1 .1 .0)
+opened c = evaluation-opened _ _ (c .before .before .before .before .evaluate .ensures) (c .evaluated .given .1)
+
 accepted : tie.Need-returns-2
 accepted c =
-    let s = c .before .before .before .before .before in
-    let a = s .before .before .before .before .before .before .before .before .before .before .args in
+    let a = c .before .before .before .before .before .before .before .before .before .before .before .before .before .before .before .args in
     let g = a .game .now in
     let p = a .plan .now in
-    let v = evaluation-opened g p (s .before .before .before .before .evaluate .ensures) (s .evaluated .given .1) in
+    let v = opened (c .before .before .before .before .before) in
     let yes = sym (judged-as g p _ (v .opened) (v .values) (c .before .before .before .judge .ensures)) ∙ c .before .enum-told2 .given .1 in
     accepted-given g p (a .moves .now) (v .opened .none) (says-equilibrium (gameOf g) (planPairOf (gameOf g) p) yes) (c .base .ensures ∙ base-is g p _ (v .opened))
 
 first-shown : tie.Need-returns-3
 first-shown c =
-    let s = c .before .before .before .before .before .before .before .before .before .before .before in
-    let a = s .before .before .before .before .before .before .before .before .before .before .args in
+    let a = c .before .before .before .before .before .before .before .before .before .before .before .before .before .before .before .before .before .before .before .before .before .args in
     let g = a .game .now in
     let p = a .plan .now in
-    let v = evaluation-opened g p (s .before .before .before .before .evaluate .ensures) (s .evaluated .given .1) in
+    let v = opened (c .before .before .before .before .before .before .before .before .before .before .before) in
     let no = sym (judged-as g p _ (v .opened) (v .values) (c .before .before .before .before .before .before .before .before .before .judge .ensures)) ∙ c .before .before .before .before .before .before .before .judged .given .1 in
     strategy-given g p (a .moves .now) _ (v .opened) one _ (first-deviates g p _ _ no (c .before .before .before .before .before .if1 .taken)) (v .best1) (c .before .before .show .ensures .0) (c .before .before .show .ensures .1)
 
 second-shown : tie.Need-returns-4
 second-shown c =
-    let s = c .before .before .before .before .before .before .before .before .before .before .before in
-    let a = s .before .before .before .before .before .before .before .before .before .before .args in
+    let a = c .before .before .before .before .before .before .before .before .before .before .before .before .before .before .before .before .before .before .before .before .before .args in
     let g = a .game .now in
     let p = a .plan .now in
-    let v = evaluation-opened g p (s .before .before .before .before .evaluate .ensures) (s .evaluated .given .1) in
+    let v = opened (c .before .before .before .before .before .before .before .before .before .before .before) in
     let no = sym (judged-as g p _ (v .opened) (v .values) (c .before .before .before .before .before .before .before .before .before .judge .ensures)) ∙ c .before .before .before .before .before .before .before .judged .given .1 in
     strategy-given g p (a .moves .now) _ (v .opened) two _ (second-deviates g p _ _ no (c .before .before .before .before .before .if1 .left)) (v .best2) (c .before .before .show2 .ensures .0) (c .before .before .show2 .ensures .1)
 
 judge-requires : tie.Need-judge-requires
 judge-requires c κs =
-    let s = c .before in
-    let a = s .before .before .before .before .before .before .before .before .before .before .args in
-    let g = a .game .now in
-    let p = a .plan .now in
-    let v = evaluation-opened g p (s .before .before .before .before .evaluate .ensures) (s .evaluated .given .1) in
-    judge-asks g p _ (v .opened) (v .values)
+    let v = opened (c .before) in
+    judge-asks _ _ _ (v .opened) (v .values)
 
 base-requires : tie.Need-base-requires
 base-requires c κs =
-    let s = c .before .before .before .before in
-    let a = s .before .before .before .before .before .before .before .before .before .before .args in
-    let g = a .game .now in
-    let p = a .plan .now in
-    let v = evaluation-opened g p (s .before .before .before .before .evaluate .ensures) (s .evaluated .given .1) in
-    base-asks g p _ (v .opened)
+    let v = opened (c .before .before .before .before) in
+    base-asks _ _ _ (v .opened)
 
 show-requires : tie.Need-show-requires
 show-requires c κs =
-    let s = c .before .before .before .before .before .before .before .before in
-    let a = s .before .before .before .before .before .before .before .before .before .before .args in
-    let g = a .game .now in
-    let p = a .plan .now in
-    let v = evaluation-opened g p (s .before .before .before .before .evaluate .ensures) (s .evaluated .given .1) in
-    show-asks g p _ (v .opened) (omega arith) (v .best1 .long)
+    let v = opened (c .before .before .before .before .before .before .before .before) in
+    show-asks _ _ _ (v .opened) (omega arith) (v .best1 .long)
 
 show-requires-2 : tie.Need-show-requires-2
 show-requires-2 c κs =
-    let s = c .before .before .before .before .before .before .before .before in
-    let a = s .before .before .before .before .before .before .before .before .before .before .args in
-    let g = a .game .now in
-    let p = a .plan .now in
-    let v = evaluation-opened g p (s .before .before .before .before .evaluate .ensures) (s .evaluated .given .1) in
-    show-asks g p _ (v .opened) (omega arith) (v .best2 .long)
+    let v = opened (c .before .before .before .before .before .before .before .before) in
+    show-asks _ _ _ (v .opened) (omega arith) (v .best2 .long)
 
 pub verdict-spec : {M : Type 1} → statement M
 verdict-spec =
