@@ -1,4 +1,4 @@
-// A file's bits: fields read from bytes, words and runs put into them, and what turns one number into another.
+// A file's bits: fields and runs read from bytes and put into them, and what turns one number into another.
 ghost use mathlib.Core.Path.{_≡_};
 ghost use Prim.Native.Nat.{suc, _+_, _-_, _/_, _%_, _^_, _≤_, _<_};
 ghost use Rattle.model.specs.Bits.{bit, field, signed};

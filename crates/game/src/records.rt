@@ -1,4 +1,4 @@
-// Where each field of a game file stands: nothing outside this file knows it.
+// Where each field of a game file stands: of the reading code, nothing outside this file knows it.
 ghost use mathlib.Core.Path.{_≡_};
 ghost use Prim.Native.Nat.{_+_, _<_};
 ghost use Rattle.model.specs.Game.{gameOf, nodeAt, nodeMoves};

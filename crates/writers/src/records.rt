@@ -1,4 +1,4 @@
-// The header, the set entries and the node records of a game file: nothing outside this file knows where a field stands.
+// The header, the set entries and the node records of a game file: of the writing code, only this file knows where a field stands.
 ghost use mathlib.Core.Path.{_≡_};
 ghost use mathlib.Core.Bool.{_&&_};
 ghost use mathlib.Core.List.{_++_};
