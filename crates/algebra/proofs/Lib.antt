@@ -2,6 +2,7 @@ pub mod Tests
 pub mod Integers
 pub mod Searches
 pub mod Counts
+pub mod Sorted
 pub mod Sums
 pub mod Ranges
 pub mod Lists

@@ -1,27 +1,22 @@
 // The entry points for Rust and C: numbers, slices and references alone.
 // A refusal is the result, 0 is none; what is lent for a result keeps what it held where the call refuses.
+// Each is one equation: what it returns, and what the lent numbers and buffers hold then, is the model's call, exported.
 ghost use mathlib.Core.Path.{_≡_};
-ghost use lib.ListN.{length};
-ghost use Rattle.model.specs.Game.{gameOf, one, two};
-ghost use Rattle.model.specs.Plan.{planPairOf, planWeights};
-ghost use Rattle.model.specs.Writing.{gameBytes, planBytes, gameFields};
-ghost use Rattle.model.specs.Calls.{afterCall, shownMoves};
-ghost use Rattle.writers.specs.GameWriter.{gameWriterRefusal};
-ghost use Rattle.writers.specs.PlanWriter.{planWriterRefusal};
-ghost use Rattle.entry.specs.Plans.{weightsRefusal};
-ghost use Rattle.model.specs.GameChecks.{gameRefusal};
-ghost use Rattle.model.specs.PlanChecks.{pairRefusal};
-ghost use Rattle.model.specs.Table.{payoffTable};
-ghost use Rattle.model.specs.Earnings.{valueBase, valueCount};
-ghost use Rattle.model.specs.BestResponse.{bestCount};
+ghost use Rattle.model.specs.Writing.{gameFields};
+ghost use Rattle.model.specs.Exported.{exported, leaves};
+ghost use Rattle.model.specs.calls.CheckGame.{checkGame};
+ghost use Rattle.model.specs.calls.GameFields as Fields;
+ghost use Rattle.model.specs.calls.PlanFields.{planFields, denominatorsIn};
+ghost use Rattle.model.specs.calls.PayoffTable.{payoffColumns};
+ghost use Rattle.model.specs.calls.Values as Values;
+ghost use Rattle.model.specs.calls.Verdict.{numbers, verdictNumbers};
+ghost use Rattle.model.specs.calls.Report as Report;
+ghost use Rattle.model.specs.calls.RefusalLine.{refusalLine};
+ghost use Rattle.model.specs.calls.WriteGame.{writeGame};
+ghost use Rattle.model.specs.calls.WritePlan.{writePlan};
+ghost use Rattle.model.specs.Demand3.{Demand3MetIn};
 ghost use Rattle.game.specs.Columns.{fieldLists};
-ghost use Rattle.fields.specs.GameFields.{fieldsRefusal, buffersAfter};
-ghost use Rattle.table.specs.Tables.{columns, tableRefusal, columnsAfter};
-ghost use Rattle.verdict.specs.Verdicts.{verdictRefusal, verdictOn, shownIn};
-ghost use Rattle.model.specs.Report.{reportOf, refusalLine};
-ghost use Rattle.report.specs.Reports.{reportRefusal, refusalLineRefusal};
-ghost use Rattle.ffi.specs.Lent.{numberAfter};
-ghost use Rattle.ffi.specs.Verdict.{shownPlayer, statedGain, Demanded};
+ghost use Rattle.ffi.specs.Numbers.{none, same, counts, denominators, pairValues};
 
 // Checks a game file, and gives N, H and D0.
 #[no_mangle]
@@ -31,10 +26,7 @@ pub extern "C" fn desk_check_game(
     sets: &mut u64,
     root_weight: &mut u64,
 ) -> u64
-    ensures { λ r. ⌜ r ≡ gameRefusal (now (game .entry)) ⌝ }
-    ensures { λ _. ⌜ now (nodes .exit) ≡ numberAfter (gameRefusal (now (game .entry))) (gameOf (now (game .entry)) .nodes) (now (nodes .entry)) ⌝ }
-    ensures { λ _. ⌜ now (sets .exit) ≡ numberAfter (gameRefusal (now (game .entry))) (gameOf (now (game .entry)) .sets) (now (sets .entry)) ⌝ }
-    ensures { λ _. ⌜ now («root_weight» .exit) ≡ numberAfter (gameRefusal (now (game .entry))) (gameOf (now (game .entry)) .rootWeight) (now («root_weight» .entry)) ⌝ }
+    ensures { λ r. ⌜ leaves r (counts (now (nodes .exit)) (now (sets .exit)) (now («root_weight» .exit))) tt ≡ exported same (counts (now (nodes .entry)) (now (sets .entry)) (now («root_weight» .entry))) (checkGame (now (game .entry))) ⌝ }
 {
     let answer = entry::check_game(game);
     match answer {
@@ -67,8 +59,7 @@ pub extern "C" fn desk_game_fields(
     payoffs1: &mut [i64],
     payoffs2: &mut [i64],
 ) -> u64
-    ensures { λ r. ⌜ r ≡ fieldsRefusal (now (game .entry)) (fieldLists (now («set_players» .entry)) (now («set_moves» .entry)) (now (kinds .entry)) (now (parents .entry)) (now (moves .entry)) (now (weights .entry)) (now («node_sets» .entry)) (now («chance_moves» .entry)) (now (payoffs1 .entry)) (now (payoffs2 .entry))) ⌝ }
-    ensures { λ _. ⌜ fieldLists (now («set_players» .exit)) (now («set_moves» .exit)) (now (kinds .exit)) (now (parents .exit)) (now (moves .exit)) (now (weights .exit)) (now («node_sets» .exit)) (now («chance_moves» .exit)) (now (payoffs1 .exit)) (now (payoffs2 .exit)) ≡ buffersAfter (now (game .entry)) (fieldLists (now («set_players» .entry)) (now («set_moves» .entry)) (now (kinds .entry)) (now (parents .entry)) (now (moves .entry)) (now (weights .entry)) (now («node_sets» .entry)) (now («chance_moves» .entry)) (now (payoffs1 .entry)) (now (payoffs2 .entry))) ⌝ }
+    ensures { λ r. ⌜ leaves r tt (Fields.lists (fieldLists (now («set_players» .exit)) (now («set_moves» .exit)) (now (kinds .exit)) (now (parents .exit)) (now (moves .exit)) (now (weights .exit)) (now («node_sets» .exit)) (now («chance_moves» .exit)) (now (payoffs1 .exit)) (now (payoffs2 .exit)))) ≡ exported none tt (Fields.gameFields (now (game .entry)) (Fields.lists (fieldLists (now («set_players» .entry)) (now («set_moves» .entry)) (now (kinds .entry)) (now (parents .entry)) (now (moves .entry)) (now (weights .entry)) (now («node_sets» .entry)) (now («chance_moves» .entry)) (now (payoffs1 .entry)) (now (payoffs2 .entry))))) ⌝ }
 {
     let answer = entry::game_fields(
         game,
@@ -102,10 +93,7 @@ pub extern "C" fn desk_plan_fields(
     d2: &mut u64,
     weights: &mut [u64],
 ) -> u64
-    ensures { λ r. ⌜ r ≡ weightsRefusal (now (game .entry)) (now (plan .entry)) (length (now (weights .entry))) ⌝ }
-    ensures { λ _. ⌜ now (d1 .exit) ≡ numberAfter (weightsRefusal (now (game .entry)) (now (plan .entry)) (length (now (weights .entry)))) (planPairOf (gameOf (now (game .entry))) (now (plan .entry)) one .denominator) (now (d1 .entry)) ⌝ }
-    ensures { λ _. ⌜ now (d2 .exit) ≡ numberAfter (weightsRefusal (now (game .entry)) (now (plan .entry)) (length (now (weights .entry)))) (planPairOf (gameOf (now (game .entry))) (now (plan .entry)) two .denominator) (now (d2 .entry)) ⌝ }
-    ensures { λ _. ⌜ now (weights .exit) ≡ afterCall (weightsRefusal (now (game .entry)) (now (plan .entry)) (length (now (weights .entry)))) (planWeights (gameOf (now (game .entry))) (now (plan .entry))) (now (weights .entry)) ⌝ }
+    ensures { λ r. ⌜ leaves r (denominators (now (d1 .exit)) (now (d2 .exit))) (now (weights .exit), tt) ≡ exported denominatorsIn (denominators (now (d1 .entry)) (now (d2 .entry))) (planFields (now (game .entry)) (now (plan .entry)) (now (weights .entry))) ⌝ }
 {
     let answer = entry::plan_fields(game, plan, weights);
     match answer {
@@ -132,9 +120,7 @@ pub extern "C" fn desk_payoff_table(
     sum2: &mut [i64],
     rows: &mut u64,
 ) -> u64
-    ensures { λ r. ⌜ r ≡ tableRefusal (now (game .entry)) (columns (now (sequence1 .entry)) (now (sequence2 .entry)) (now (sum1 .entry)) (now (sum2 .entry))) ⌝ }
-    ensures { λ _. ⌜ columns (now (sequence1 .exit)) (now (sequence2 .exit)) (now (sum1 .exit)) (now (sum2 .exit)) ≡ columnsAfter (now (game .entry)) (columns (now (sequence1 .entry)) (now (sequence2 .entry)) (now (sum1 .entry)) (now (sum2 .entry))) ⌝ }
-    ensures { λ _. ⌜ now (rows .exit) ≡ numberAfter (tableRefusal (now (game .entry)) (columns (now (sequence1 .entry)) (now (sequence2 .entry)) (now (sum1 .entry)) (now (sum2 .entry)))) (length (payoffTable (gameOf (now (game .entry))))) (now (rows .entry)) ⌝ }
+    ensures { λ r. ⌜ leaves r (now (rows .exit)) (now (sequence1 .exit), (now (sequence2 .exit), (now (sum1 .exit), (now (sum2 .exit), tt)))) ≡ exported same (now (rows .entry)) (payoffColumns (now (game .entry)) (now (sequence1 .entry), (now (sequence2 .entry), (now (sum1 .entry), (now (sum2 .entry), tt))))) ⌝ }
 {
     let answer = entry::payoff_table(game, sequence1, sequence2, sum1, sum2);
     match answer {
@@ -159,14 +145,7 @@ pub extern "C" fn desk_values(
     d1: &mut u64,
     d2: &mut u64,
 ) -> u64
-    ensures { λ r. ⌜ r ≡ pairRefusal (now (game .entry)) (now (plan .entry)) ⌝ }
-    ensures { λ _. ⌜ now (value1 .exit) ≡ numberAfter (pairRefusal (now (game .entry)) (now (plan .entry))) (valueCount (gameOf (now (game .entry))) (planPairOf (gameOf (now (game .entry))) (now (plan .entry))) one) (now (value1 .entry)) ⌝ }
-    ensures { λ _. ⌜ now (value2 .exit) ≡ numberAfter (pairRefusal (now (game .entry)) (now (plan .entry))) (valueCount (gameOf (now (game .entry))) (planPairOf (gameOf (now (game .entry))) (now (plan .entry))) two) (now (value2 .entry)) ⌝ }
-    ensures { λ _. ⌜ now (best1 .exit) ≡ numberAfter (pairRefusal (now (game .entry)) (now (plan .entry))) (bestCount (gameOf (now (game .entry))) one (planPairOf (gameOf (now (game .entry))) (now (plan .entry)) two)) (now (best1 .entry)) ⌝ }
-    ensures { λ _. ⌜ now (best2 .exit) ≡ numberAfter (pairRefusal (now (game .entry)) (now (plan .entry))) (bestCount (gameOf (now (game .entry))) two (planPairOf (gameOf (now (game .entry))) (now (plan .entry)) one)) (now (best2 .entry)) ⌝ }
-    ensures { λ _. ⌜ now (d0 .exit) ≡ numberAfter (pairRefusal (now (game .entry)) (now (plan .entry))) (gameOf (now (game .entry)) .rootWeight) (now (d0 .entry)) ⌝ }
-    ensures { λ _. ⌜ now (d1 .exit) ≡ numberAfter (pairRefusal (now (game .entry)) (now (plan .entry))) (planPairOf (gameOf (now (game .entry))) (now (plan .entry)) one .denominator) (now (d1 .entry)) ⌝ }
-    ensures { λ _. ⌜ now (d2 .exit) ≡ numberAfter (pairRefusal (now (game .entry)) (now (plan .entry))) (planPairOf (gameOf (now (game .entry))) (now (plan .entry)) two .denominator) (now (d2 .entry)) ⌝ }
+    ensures { λ r. ⌜ leaves r (pairValues (now (value1 .exit)) (now (value2 .exit)) (now (best1 .exit)) (now (best2 .exit)) (now (d0 .exit)) (now (d1 .exit)) (now (d2 .exit))) tt ≡ exported same (pairValues (now (value1 .entry)) (now (value2 .entry)) (now (best1 .entry)) (now (best2 .entry)) (now (d0 .entry)) (now (d1 .entry)) (now (d2 .entry))) (Values.values (now (game .entry)) (now (plan .entry))) ⌝ }
 {
     let answer = entry::values(game, plan);
     match answer {
@@ -204,13 +183,8 @@ pub extern "C" fn desk_verdict(
     count: &mut u64,
     moves: &mut [u64],
 ) -> u64
-    ensures { λ r. ⌜ r ≡ verdictRefusal (now (game .entry)) (now (plan .entry)) (length (now (moves .entry))) ⌝ }
-    ensures { λ _. ⌜ now (player .exit) ≡ numberAfter (verdictRefusal (now (game .entry)) (now (plan .entry)) (length (now (moves .entry)))) (shownPlayer (verdictOn (now (game .entry)) (now (plan .entry)))) (now (player .entry)) ⌝ }
-    ensures { λ _. ⌜ now (gain .exit) ≡ numberAfter (verdictRefusal (now (game .entry)) (now (plan .entry)) (length (now (moves .entry)))) (statedGain (verdictOn (now (game .entry)) (now (plan .entry)))) (now (gain .entry)) ⌝ }
-    ensures { λ _. ⌜ now (base .exit) ≡ numberAfter (verdictRefusal (now (game .entry)) (now (plan .entry)) (length (now (moves .entry)))) (valueBase (gameOf (now (game .entry))) (planPairOf (gameOf (now (game .entry))) (now (plan .entry)))) (now (base .entry)) ⌝ }
-    ensures { λ _. ⌜ now (count .exit) ≡ numberAfter (verdictRefusal (now (game .entry)) (now (plan .entry)) (length (now (moves .entry)))) (length (shownMoves (verdictOn (now (game .entry)) (now (plan .entry))))) (now (count .entry)) ⌝ }
-    ensures { λ _. ⌜ now (moves .exit) ≡ afterCall (verdictRefusal (now (game .entry)) (now (plan .entry)) (length (now (moves .entry)))) (shownIn (now (game .entry)) (now (plan .entry))) (now (moves .entry)) ⌝ }
-    ensures { λ _. ⌜ Demanded (verdictRefusal (now (game .entry)) (now (plan .entry)) (length (now (moves .entry)))) (now (game .entry)) (now (plan .entry)) (now (player .exit)) (now (gain .exit)) (now (count .exit)) (now (moves .exit)) ⌝ }
+    ensures { λ r. ⌜ leaves r (numbers (now (player .exit)) (now (gain .exit)) (now (base .exit)) (now (count .exit))) (now (moves .exit), tt) ≡ verdictNumbers (now (game .entry)) (now (plan .entry)) (numbers (now (player .entry)) (now (gain .entry)) (now (base .entry)) (now (count .entry))) (now (moves .entry)) ⌝ }
+    ensures { λ r. ⌜ Demand3MetIn (now (game .entry)) (now (plan .entry)) (now (moves .entry)) (leaves r (numbers (now (player .exit)) (now (gain .exit)) (now (base .exit)) (now (count .exit))) (now (moves .exit), tt)) ⌝ }
 {
     let answer = entry::verdict(game, plan, moves);
     match answer {
@@ -240,9 +214,7 @@ pub extern "C" fn desk_verdict(
 // Writes the desk program's text for two files that fit, and gives its length.
 #[no_mangle]
 pub extern "C" fn desk_report(game: &[u8], plan: &[u8], out: &mut [u8], size: &mut u64) -> u64
-    ensures { λ r. ⌜ r ≡ reportRefusal (now (game .entry)) (now (plan .entry)) (length (now (out .entry))) ⌝ }
-    ensures { λ _. ⌜ now (out .exit) ≡ afterCall (reportRefusal (now (game .entry)) (now (plan .entry)) (length (now (out .entry)))) (reportOf (now (game .entry)) (now (plan .entry))) (now (out .entry)) ⌝ }
-    ensures { λ _. ⌜ now (size .exit) ≡ numberAfter (reportRefusal (now (game .entry)) (now (plan .entry)) (length (now (out .entry)))) (length (reportOf (now (game .entry)) (now (plan .entry)))) (now (size .entry)) ⌝ }
+    ensures { λ r. ⌜ leaves r (now (size .exit)) (now (out .exit), tt) ≡ exported same (now (size .entry)) (Report.report (now (game .entry)) (now (plan .entry)) (now (out .entry))) ⌝ }
 {
     let answer = entry::report(game, plan, out);
     match answer {
@@ -257,9 +229,7 @@ pub extern "C" fn desk_report(game: &[u8], plan: &[u8], out: &mut [u8], size: &m
 // Writes the line that tells a refusal, and gives its length.
 #[no_mangle]
 pub extern "C" fn desk_refusal_line(number: u64, out: &mut [u8], size: &mut u64) -> u64
-    ensures { λ r. ⌜ r ≡ refusalLineRefusal number (length (now (out .entry))) ⌝ }
-    ensures { λ _. ⌜ now (out .exit) ≡ afterCall (refusalLineRefusal number (length (now (out .entry)))) (refusalLine number) (now (out .entry)) ⌝ }
-    ensures { λ _. ⌜ now (size .exit) ≡ numberAfter (refusalLineRefusal number (length (now (out .entry)))) (length (refusalLine number)) (now (size .entry)) ⌝ }
+    ensures { λ r. ⌜ leaves r (now (size .exit)) (now (out .exit), tt) ≡ exported same (now (size .entry)) (refusalLine number (now (out .entry))) ⌝ }
 {
     let answer = entry::refusal_line(number, out);
     match answer {
@@ -280,9 +250,7 @@ pub extern "C" fn desk_write_plan(
     out: &mut [u8],
     size: &mut u64,
 ) -> u64
-    ensures { λ r. ⌜ r ≡ planWriterRefusal d1 d2 (now (weights .entry)) (length (now (out .entry))) ⌝ }
-    ensures { λ _. ⌜ now (out .exit) ≡ afterCall (planWriterRefusal d1 d2 (now (weights .entry)) (length (now (out .entry)))) (planBytes d1 d2 (now (weights .entry))) (now (out .entry)) ⌝ }
-    ensures { λ _. ⌜ now (size .exit) ≡ numberAfter (planWriterRefusal d1 d2 (now (weights .entry)) (length (now (out .entry)))) (length (planBytes d1 d2 (now (weights .entry)))) (now (size .entry)) ⌝ }
+    ensures { λ r. ⌜ leaves r (now (size .exit)) (now (out .exit), tt) ≡ exported same (now (size .entry)) (writePlan d1 d2 (now (weights .entry)) (now (out .entry))) ⌝ }
 {
     let answer = entry::write_plan(d1, d2, weights, out);
     match answer {
@@ -311,9 +279,7 @@ pub extern "C" fn desk_write_game(
     out: &mut [u8],
     size: &mut u64,
 ) -> u64
-    ensures { λ r. ⌜ r ≡ gameWriterRefusal (gameFields «root_weight» (now («set_players» .entry)) (now («set_moves» .entry)) (now (kinds .entry)) (now (parents .entry)) (now (moves .entry)) (now (weights .entry)) (now («node_sets» .entry)) (now («chance_moves» .entry)) (now («first_payoffs» .entry)) (now («second_payoffs» .entry))) (length (now (out .entry))) ⌝ }
-    ensures { λ _. ⌜ now (out .exit) ≡ afterCall (gameWriterRefusal (gameFields «root_weight» (now («set_players» .entry)) (now («set_moves» .entry)) (now (kinds .entry)) (now (parents .entry)) (now (moves .entry)) (now (weights .entry)) (now («node_sets» .entry)) (now («chance_moves» .entry)) (now («first_payoffs» .entry)) (now («second_payoffs» .entry))) (length (now (out .entry)))) (gameBytes (gameFields «root_weight» (now («set_players» .entry)) (now («set_moves» .entry)) (now (kinds .entry)) (now (parents .entry)) (now (moves .entry)) (now (weights .entry)) (now («node_sets» .entry)) (now («chance_moves» .entry)) (now («first_payoffs» .entry)) (now («second_payoffs» .entry)))) (now (out .entry)) ⌝ }
-    ensures { λ _. ⌜ now (size .exit) ≡ numberAfter (gameWriterRefusal (gameFields «root_weight» (now («set_players» .entry)) (now («set_moves» .entry)) (now (kinds .entry)) (now (parents .entry)) (now (moves .entry)) (now (weights .entry)) (now («node_sets» .entry)) (now («chance_moves» .entry)) (now («first_payoffs» .entry)) (now («second_payoffs» .entry))) (length (now (out .entry)))) (length (gameBytes (gameFields «root_weight» (now («set_players» .entry)) (now («set_moves» .entry)) (now (kinds .entry)) (now (parents .entry)) (now (moves .entry)) (now (weights .entry)) (now («node_sets» .entry)) (now («chance_moves» .entry)) (now («first_payoffs» .entry)) (now («second_payoffs» .entry))))) (now (size .entry)) ⌝ }
+    ensures { λ r. ⌜ leaves r (now (size .exit)) (now (out .exit), tt) ≡ exported same (now (size .entry)) (writeGame (gameFields «root_weight» (now («set_players» .entry)) (now («set_moves» .entry)) (now (kinds .entry)) (now (parents .entry)) (now (moves .entry)) (now (weights .entry)) (now («node_sets» .entry)) (now («chance_moves» .entry)) (now («first_payoffs» .entry)) (now («second_payoffs» .entry))) (now (out .entry))) ⌝ }
 {
     let answer = entry::write_game(
         root_weight,

@@ -1,9 +1,12 @@
 // All fields of a game into lent buffers, one a field.
 ghost use mathlib.Core.Path.{_≡_};
 ghost use mathlib.Core.List.{[], _∷_};
-ghost use Rattle.model.specs.Calls.{longEnough};
+ghost use Rattle.model.specs.Call.{longEnough, outcome};
+ghost use Rattle.model.specs.calls.GameFields.{lists, gameFields};
+ghost use Rattle.checks.specs.Checked.{checkedOf};
 ghost use Rattle.game.specs.Columns.{fieldLists};
-ghost use Rattle.fields.specs.GameFields.{fieldsRefusal, fieldsAnswer, buffersAfter};
+ghost use Rattle.fields.specs.Answers.{fieldsAnswered};
+use checks::Checked;
 
 // N, H and D0 of a game whose fields stand in the lent buffers; a refusal is 1 to 13, or 18.
 pub enum FieldsAnswer {
@@ -15,7 +18,7 @@ pub enum FieldsAnswer {
     Refused(u64),
 }
 
-// Whether the buffers have room for `h` sets and `n` nodes: lengths alone.
+// Check 18: whether the buffers have room for `h` sets and `n` nodes, by their lengths alone.
 fn has_room(
     h: usize,
     n: usize,
@@ -29,19 +32,20 @@ fn has_room(
     chance_moves: usize,
     payoffs1: usize,
     payoffs2: usize,
-) -> bool
-    ensures { λ r. ⌜ r ≡ longEnough (h ∷ h ∷ n ∷ n ∷ n ∷ n ∷ n ∷ n ∷ n ∷ n ∷ []) («set_players» ∷ «set_moves» ∷ kinds ∷ parents ∷ moves ∷ weights ∷ «node_sets» ∷ «chance_moves» ∷ payoffs1 ∷ payoffs2 ∷ []) ⌝ }
+) -> Checked
+    ensures { λ r. ⌜ r ≡ checkedOf 18 (longEnough (h ∷ h ∷ n ∷ n ∷ n ∷ n ∷ n ∷ n ∷ n ∷ n ∷ []) («set_players» ∷ «set_moves» ∷ kinds ∷ parents ∷ moves ∷ weights ∷ «node_sets» ∷ «chance_moves» ∷ payoffs1 ∷ payoffs2 ∷ [])) ⌝ }
 {
-    let ok = calls::room_and(n, payoffs2, true);
-    let ok = calls::room_and(n, payoffs1, ok);
-    let ok = calls::room_and(n, chance_moves, ok);
-    let ok = calls::room_and(n, node_sets, ok);
-    let ok = calls::room_and(n, weights, ok);
-    let ok = calls::room_and(n, moves, ok);
-    let ok = calls::room_and(n, parents, ok);
-    let ok = calls::room_and(n, kinds, ok);
-    let ok = calls::room_and(h, set_moves, ok);
-    calls::room_and(h, set_players, ok)
+    let ok = checks::room_and(n, payoffs2, true);
+    let ok = checks::room_and(n, payoffs1, ok);
+    let ok = checks::room_and(n, chance_moves, ok);
+    let ok = checks::room_and(n, node_sets, ok);
+    let ok = checks::room_and(n, weights, ok);
+    let ok = checks::room_and(n, moves, ok);
+    let ok = checks::room_and(n, parents, ok);
+    let ok = checks::room_and(n, kinds, ok);
+    let ok = checks::room_and(h, set_moves, ok);
+    let ok = checks::room_and(h, set_players, ok);
+    checks::check(18, ok)
 }
 
 // All fields of a game, each into its buffer: by set the player (0 is player 1) and the move count; by node the kind, the parent, the move there,
@@ -59,13 +63,13 @@ pub fn game_fields(
     payoffs1: &mut [i64],
     payoffs2: &mut [i64],
 ) -> FieldsAnswer
-    ensures { λ r. ⌜ (r ≡ fieldsAnswer (fieldsRefusal (now (game .entry)) (fieldLists (now («set_players» .entry)) (now («set_moves» .entry)) (now (kinds .entry)) (now (parents .entry)) (now (moves .entry)) (now (weights .entry)) (now («node_sets» .entry)) (now («chance_moves» .entry)) (now (payoffs1 .entry)) (now (payoffs2 .entry)))) (now (game .entry))) × (fieldLists (now («set_players» .exit)) (now («set_moves» .exit)) (now (kinds .exit)) (now (parents .exit)) (now (moves .exit)) (now (weights .exit)) (now («node_sets» .exit)) (now («chance_moves» .exit)) (now (payoffs1 .exit)) (now (payoffs2 .exit)) ≡ buffersAfter (now (game .entry)) (fieldLists (now («set_players» .entry)) (now («set_moves» .entry)) (now (kinds .entry)) (now (parents .entry)) (now (moves .entry)) (now (weights .entry)) (now («node_sets» .entry)) (now («chance_moves» .entry)) (now (payoffs1 .entry)) (now (payoffs2 .entry)))) ⌝ }
+    ensures { λ r. ⌜ outcome (fieldsAnswered r) (lists (fieldLists (now («set_players» .exit)) (now («set_moves» .exit)) (now (kinds .exit)) (now (parents .exit)) (now (moves .exit)) (now (weights .exit)) (now («node_sets» .exit)) (now («chance_moves» .exit)) (now (payoffs1 .exit)) (now (payoffs2 .exit)))) ≡ gameFields (now (game .entry)) (lists (fieldLists (now («set_players» .entry)) (now («set_moves» .entry)) (now (kinds .entry)) (now (parents .entry)) (now (moves .entry)) (now (weights .entry)) (now («node_sets» .entry)) (now («chance_moves» .entry)) (now (payoffs1 .entry)) (now (payoffs2 .entry)))) ⌝ }
 {
     let checked = game::check(game);
     let game::GameAnswer::Accepted(header) = checked else {
         return FieldsAnswer::Refused(game::refusal(checked));
     };
-    let room = has_room(
+    let c18 = has_room(
         header.sets,
         header.nodes,
         set_players.len(),
@@ -79,26 +83,26 @@ pub fn game_fields(
         payoffs1.len(),
         payoffs2.len(),
     );
-    if room {
-        game::fields::fill_all(
-            game,
-            header,
-            set_players,
-            set_moves,
-            kinds,
-            parents,
-            moves,
-            weights,
-            node_sets,
-            chance_moves,
-            payoffs1,
-            payoffs2,
-        );
-        return FieldsAnswer::Given {
-            nodes: header.nodes as u64,
-            sets: header.sets as u64,
-            root_weight: header.root_weight,
-        };
+    let Checked::Fine = c18 else {
+        return FieldsAnswer::Refused(checks::number(c18));
+    };
+    game::fields::fill_all(
+        game,
+        header,
+        set_players,
+        set_moves,
+        kinds,
+        parents,
+        moves,
+        weights,
+        node_sets,
+        chance_moves,
+        payoffs1,
+        payoffs2,
+    );
+    FieldsAnswer::Given {
+        nodes: header.nodes as u64,
+        sets: header.sets as u64,
+        root_weight: header.root_weight,
     }
-    FieldsAnswer::Refused(18)
 }

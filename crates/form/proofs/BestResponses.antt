@@ -17,7 +17,7 @@ use Rattle.model.specs.Sequences.{Sequence, extended, leading, sequenceNumber, 
 use Rattle.model.specs.Plan.{RealizationPlan}
 use Rattle.model.specs.BestResponse.{worthIn, worth, setWorth, bestCount, bestMove}
 use Rattle.model.specs.Writing.{entry, entryZ}
-use Rattle.model.specs.Demand1.{GameRules}
+use Rattle.model.specs.Rules.{GameRules}
 use Rattle.model.proofs.Sequences.{number-empty}
 use Rattle.model.proofs.Tree.{IsSequence, empty, after, leading-sequence}
 use Rattle.model.proofs.Numbers.{number-below}

@@ -7,7 +7,7 @@ use Rattle.model.specs.Game.{Game, Player, one, two}
 use Rattle.model.specs.Sequences.{sequenceCount}
 use Rattle.model.specs.Earnings.{valueCount}
 use Rattle.model.specs.BestResponse.{bestCount}
-use Rattle.model.specs.Demand1.{GameRules}
+use Rattle.model.specs.Rules.{GameRules}
 use Rattle.model.proofs.Table.{ByNumber}
 use Rattle.model.specs.Writing.{entry}
 use Rattle.model.proofs.Budget.{GameLimits}

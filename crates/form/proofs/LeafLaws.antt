@@ -20,7 +20,7 @@ use Rattle.model.specs.Plan.{RealizationPlan, PlanPair, weightAt}
 use Rattle.model.specs.Table.{ownNumber}
 use Rattle.model.specs.Earnings.{leafTerm, valueTerm, valueCount}
 use Rattle.model.specs.BestResponse.{leavesWorth}
-use Rattle.model.specs.Demand1.{GameRules}
+use Rattle.model.specs.Rules.{GameRules}
 use Rattle.model.specs.Writing.{entry}
 use Rattle.model.proofs.Budget.{GameLimits, ResponseBudget, Budget}
 use Rattle.model.proofs.Numbers.{number-same}

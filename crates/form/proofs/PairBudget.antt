@@ -8,11 +8,10 @@ use lib.ListN.{length}
 use Rattle.algebra.proofs.Tests.{true→T}
 use Rattle.model.specs.Game.{Game, Player, one, two}
 use Rattle.model.specs.Sequences.{sequenceCount}
-use Rattle.model.specs.Plan.{PlanPair, pairFits}
-use Rattle.model.specs.Demand1.{GameRules}
+use Rattle.model.specs.Plan.{PlanPair, pairFits, Fits}
+use Rattle.model.specs.Rules.{GameRules}
 use Rattle.model.specs.Writing.{entry}
 use Rattle.model.proofs.Budget.{budget, GameLimits, PlanLimits, Budget}
-use Rattle.model.proofs.Duality.{Fits}
 use Rattle.model.proofs.Numbers.{sequences-few}
 use Rattle.model.proofs.PlanRules.{pair-fits-iff}
 use Rattle.plan.specs.Weights.{planByNumber, pairByNumber, Small, Weights}

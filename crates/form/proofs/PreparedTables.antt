@@ -21,7 +21,7 @@ use Rattle.model.specs.Sequences.{Sequence, extended, same, leading, moveNumber
 use Rattle.model.specs.Plan.{RealizationPlan}
 use Rattle.model.specs.BestResponse.{leadsTo, leavesWorth, worthIn, greatestWorth}
 use Rattle.model.specs.Writing.{entry, entryZ}
-use Rattle.model.specs.Demand1.{GameRules}
+use Rattle.model.specs.Rules.{GameRules}
 use Rattle.model.proofs.Sequences.{eq→same, number-extended}
 use Rattle.model.proofs.Tree.{IsSequence, empty, after, first-in, leading-sequence}
 use Rattle.model.proofs.Numbers.{number-below, number-same}

@@ -12,7 +12,7 @@ use Rattle.model.specs.Sequences.{sequenceCount, leadingNumber}
 use Rattle.model.specs.Table.{ownNumber}
 use Rattle.model.specs.BestResponse.{bestCount}
 use Rattle.model.specs.Plan.{RealizationPlan, weightAt}
-use Rattle.model.specs.Demand1.{GameRules}
+use Rattle.model.specs.Rules.{GameRules}
 use Rattle.model.specs.Writing.{entry, playerField}
 use Rattle.model.proofs.Budget.{GameLimits, game-limits, ResponseBudget, response-budget}
 use Rattle.model.proofs.Numbers.{sequences-few, own-number-below}

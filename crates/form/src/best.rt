@@ -7,7 +7,7 @@ ghost use Rattle.model.specs.Game.{gameOf, playerOf, other};
 ghost use Rattle.model.specs.Sequences.{leadingNumber, sequenceCount};
 ghost use Rattle.model.specs.BestResponse.{bestCount};
 ghost use Rattle.model.specs.Writing.{entry, playerField};
-ghost use Rattle.model.specs.Demand1.{GameRules};
+ghost use Rattle.model.specs.Rules.{GameRules};
 ghost use Rattle.game.specs.Records.{headerOf};
 ghost use Rattle.plan.specs.Weights.{planByNumber, Weights};
 ghost use Rattle.gather.specs.Leaves.{PlayerLeaves};

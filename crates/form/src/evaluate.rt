@@ -8,7 +8,7 @@ ghost use Rattle.model.specs.Game.{gameOf, one, two};
 ghost use Rattle.model.specs.Plan.{pairFits};
 ghost use Rattle.model.specs.Table.{ownNumber};
 ghost use Rattle.model.specs.Writing.{entry};
-ghost use Rattle.model.specs.Demand1.{GameRules};
+ghost use Rattle.model.specs.Rules.{GameRules};
 ghost use Rattle.game.specs.Records.{headerOf};
 ghost use Rattle.game.specs.Sets.{countsOf};
 ghost use Rattle.plan.specs.Weights.{planByNumber, pairByNumber, Small};

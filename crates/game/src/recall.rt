@@ -8,15 +8,16 @@ ghost use Rattle.model.specs.Table.{ownNumber};
 ghost use Rattle.model.specs.GameChecks.{perfectRecall};
 ghost use Rattle.algebra.specs.Bounded.{allTo};
 ghost use Rattle.algebra.specs.Arrays.{Holds, over};
-ghost use Rattle.game.specs.Answers.{checkedOf, Framed, Rooted};
+ghost use Rattle.checks.specs.Checked.{checkedOf};
+ghost use Rattle.game.specs.Answers.{Framed, Rooted};
 ghost use Rattle.game.specs.Sets.{firstSequence};
 ghost use Rattle.game.specs.Recall.{lastOf, Numbered, numberOf, recallTest};
-use super::Checked;
 use super::LastMove;
 use super::NodeRecord;
 use super::Payload;
 use super::SetEntry;
 use super::sets;
+use checks::Checked;
 
 // The last own move of a player on the walk from node `n` to the root: at the parent, or else the parent's.
 pub fn last_own_move(bytes: &[u8], records: usize, player: u64, n: usize) -> LastMove
@@ -98,7 +99,7 @@ fn player_recalls(
     own: &mut [u64],
 ) -> Checked
     requires { ⌜ Framed (now bytes) records nodes × Rooted (gameOf (now bytes)) × (player < 2) × (nodes ≤ length (now own)) × Holds (firstSequence (gameOf (now bytes))) (gameOf (now bytes) .sets) (now starts) × Holds (firstNode (gameOf (now bytes))) (gameOf (now bytes) .sets) (now first) ⌝ }
-    ensures { λ r. ⌜ r ≡ checkedOf (allTo (gameOf (now (bytes .entry)) .nodes) (recallTest (gameOf (now (bytes .entry))) (playerOf player))) ⌝ }
+    ensures { λ r. ⌜ r ≡ checkedOf 13 (allTo (gameOf (now (bytes .entry)) .nodes) (recallTest (gameOf (now (bytes .entry))) (playerOf player))) ⌝ }
 {
     own_numbers(bytes, records, nodes, player, starts, own);
     let mut n = 0;
@@ -106,7 +107,7 @@ fn player_recalls(
         if recalls(bytes, records, player, n, first, own) {
             n += 1;
         } else {
-            return Checked::Broken;
+            return Checked::Broken(13);
         }
     }
     Checked::Fine
@@ -115,7 +116,7 @@ fn player_recalls(
 // Check 13.
 pub fn perfect_recall(bytes: &[u8], records: usize, nodes: usize, sets: usize) -> Checked
     requires { ⌜ Framed (now bytes) records nodes × Rooted (gameOf (now bytes)) × (sets ≡ gameOf (now bytes) .sets) ⌝ }
-    ensures { λ r. ⌜ r ≡ checkedOf (perfectRecall (gameOf (now (bytes .entry)))) ⌝ }
+    ensures { λ r. ⌜ r ≡ checkedOf 13 (perfectRecall (gameOf (now (bytes .entry)))) ⌝ }
 {
     let mut starts = [0u64; NodeRecord::NODES];
     let mut first = [0u64; NodeRecord::NODES];
@@ -124,7 +125,7 @@ pub fn perfect_recall(bytes: &[u8], records: usize, nodes: usize, sets: usize) -
     sets::first_nodes(bytes, records, nodes, sets, &mut first);
     let one = player_recalls(bytes, records, nodes, 0, &starts, &first, &mut own);
     let Checked::Fine = one else {
-        return Checked::Broken;
+        return one;
     };
     player_recalls(bytes, records, nodes, 1, &starts, &first, &mut own)
 }

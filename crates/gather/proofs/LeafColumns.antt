@@ -8,7 +8,7 @@ use lib.IntN.{ℤ}
 use Rattle.model.specs.Game.{Game, Player, one, two, other}
 use Rattle.model.specs.Sequences.{sequenceCount}
 use Rattle.model.specs.Table.{ownNumber}
-use Rattle.model.specs.Demand1.{GameRules}
+use Rattle.model.specs.Rules.{GameRules}
 use Rattle.model.specs.Writing.{entry}
 use Rattle.model.proofs.Numbers.{own-number-below}
 use Rattle.gather.specs.Leaves.{leavesOf, leafOf, Column, Gathered, PlayerLeaves}

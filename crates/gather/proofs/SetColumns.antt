@@ -12,7 +12,7 @@ use Rattle.model.specs.Game.{Game, Player, one, two, playerBit}
 use Rattle.model.specs.Sequences.{firstNode, leadingNumber}
 use Rattle.model.specs.Table.{ownNumber}
 use Rattle.model.specs.Writing.{entry, playerField}
-use Rattle.model.specs.Demand1.{GameRules}
+use Rattle.model.specs.Rules.{GameRules}
 use Rattle.game.proofs.Leading.{first-found, leading-is}
 use Rattle.gather.specs.Sets.{leadStored, ownLead}
 

@@ -4,7 +4,7 @@ ghost use Prim.Native.Nat.{_≤_};
 ghost use lib.ListN.{length};
 ghost use Rattle.model.specs.Game.{gameOf, one, two};
 ghost use Rattle.model.specs.Sequences.{sequenceCount};
-ghost use Rattle.model.specs.Demand1.{GameRules};
+ghost use Rattle.model.specs.Rules.{GameRules};
 ghost use Rattle.game.specs.Records.{headerOf};
 ghost use Rattle.gather.specs.Numbers.{OwnNumbers};
 use game::Header;

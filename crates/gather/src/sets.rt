@@ -5,7 +5,7 @@ ghost use lib.ListN.{length};
 ghost use Rattle.algebra.specs.Arrays.{over};
 ghost use Rattle.model.specs.Game.{gameOf};
 ghost use Rattle.model.specs.Writing.{entry, playerField};
-ghost use Rattle.model.specs.Demand1.{GameRules};
+ghost use Rattle.model.specs.Rules.{GameRules};
 ghost use Rattle.game.specs.Records.{headerOf};
 ghost use Rattle.gather.specs.Numbers.{OwnNumbers};
 ghost use Rattle.gather.specs.Sets.{leadStored, ownLead, SetsGathered};

@@ -1,5 +1,5 @@
 -- The best response: a pure strategy that takes the lowest-numbered best move in every set, and earns the best value.
-use Prim.Native.Nat.{ℕ, zero, suc, pred, _*_, _≤_, _<_}
+use Prim.Native.Nat.{ℕ, zero, suc, pred, _≤_, _<_}
 use mathlib.Core.Path.{_≡_, refl, sym, ap, _∙_, subst}
 use mathlib.Core.Bool.{Bool, true, false, cond}
 use mathlib.Core.List.{List, [], _∷_, _++_, map, append-assoc, append-nil}
@@ -7,24 +7,24 @@ use native.Mathlib.Omega.{arith}
 use native.Mathlib.Decide.{ℕ-discrete}
 use lib.Dec.{T, eqb, eqb→eq, eqb-refl, not-T}
 use mir.Facts.{and-yes}
-use native.Mathlib.Nat as NatL
 use lib.IntN.{ℤ, pos, _*ℤ_, zero-*ℤ}
 use lib.Signed.{_≤ℤ_, _<ℤ_, leZ, leZ-yes, ltZ, ltZ-yes, ltZ-no, ≤ℤ-refl}
 use Rattle.algebra.specs.Bounded.{joinTo}
 use Rattle.algebra.proofs.Tests.{dec, cond-yes, cond-no}
 use Rattle.algebra.proofs.Searches.{firstTo-found, firstTo-before, maxUpTo-above, maxUpTo-met}
-use Rattle.algebra.proofs.Integers.{≤ℤ-antisym, scale-mono, scale-scale, scale-one}
+use Rattle.algebra.proofs.Integers.{≤ℤ-antisym, scale-mono, scale-one}
 use Rattle.algebra.proofs.Counts.{only}
 use Rattle.algebra.proofs.Lists.{joinTo-cong, map-joinTo}
 use Rattle.model.specs.Game.{Game, Player, owns}
 use Rattle.model.specs.Sequences.{Move, extended, leading}
-use Rattle.model.specs.Plan.{RealizationPlan}
-use Rattle.model.specs.Earnings.{AtMost, PureStrategy, MixedStrategy, consistent, listed, totalWeight, IsPure, IsMixed, setsOf, pureCount, againstBase, pureEarnings, mixedCount, mixedEarnings}
+use Rattle.model.specs.Plan.{RealizationPlan, Fits}
+use Rattle.model.specs.Earnings.{AtMost, PureStrategy, MixedStrategy, consistent, listed, totalWeight, IsPure, IsMixed, setsOf, pureCount, againstBase, pureEarnings, mixedCount, mixedEarnings, planCount, planEarnings}
 use Rattle.model.specs.BestResponse.{worth, setWorth, bestCount, bestValue, bestMove, bestAt, bestResponse}
-use Rattle.model.specs.Demand1.{GameRules}
+use Rattle.model.specs.Rules.{GameRules}
 use Rattle.model.proofs.Sequences.{consistent-extended}
 use Rattle.model.proofs.Worths.{worth-set}
-use Rattle.model.proofs.Duality.{priceOfMove, priceOfBest, plan-attains}
+use Rattle.model.proofs.Earnings.{mixture-at-most}
+use Rattle.model.proofs.Duality.{plan-at-most, plan-attains}
 use Rattle.model.proofs.Strategies.{purePlan, pure-fits, pure-count, pure-at-most, mixed-at-most}
 
 -- an integer that is not at least another is below it
@@ -34,11 +34,6 @@ not-above a b n =
       | yes t ↦ ltZ-yes t
       | no t ↦ let e : a ≤ℤ b = ltZ-no (not-T (ltZ b a) t) in absurd (n (e .le))
     ]
-
--- a mixture that counts at most t times as much is at most as much
-mixture-at-most : (t E : ℕ) (m a : ℤ) → m ≤ℤ (pos t *ℤ a) → (pos E *ℤ m) ≤ℤ (pos (t * E) *ℤ a)
-mixture-at-most t E m a h =
-    subst (λ (z : ℤ). (pos E *ℤ m) ≤ℤ z) (scale-scale E t a ∙ ap (λ (k : ℕ). pos k *ℤ a) (NatL.mul-comm E t)) (scale-mono E h)
 
 module _ (g : Game) (p : Player) (y : RealizationPlan) where
   abbrev part : ℕ → List Move
@@ -122,7 +117,7 @@ module _ (g : Game) (p : Player) (y : RealizationPlan) where
 
     -- and earns the best value
     pub response-earns : pureCount g p y (listed (bestResponse g p y)) ≡ bestCount g p y
-    unfolding purePlan priceOfMove priceOfBest
+    unfolding purePlan
     response-earns =
         let σ = listed (bestResponse g p y) in
         pure-count g R p y σ
@@ -147,6 +142,11 @@ module _ (g : Game) (p : Player) (y : RealizationPlan) where
     pub mixed-most : (μ : MixedStrategy) → IsMixed g p μ → AtMost (mixedEarnings g p y μ) (bestValue g p y)
     unfolding mixedEarnings bestValue IsMixed
     mixed-most μ legal = mixture-at-most (totalWeight μ) (againstBase g y) (mixedCount g p y μ) (bestCount g p y) (mixed-at-most g R p y μ (legal .0))
+
+    -- and no plan that fits
+    pub plan-most : (x : RealizationPlan) → Fits g p x → AtMost (planEarnings g p y x) (bestValue g p y)
+    unfolding planEarnings bestValue
+    plan-most x F = mixture-at-most (x .denominator) (againstBase g y) (planCount g p y x) (bestCount g p y) (plan-at-most g R p y x F)
 
     -- the best response earns exactly it
     pub response-attains : pureEarnings g p y (listed (bestResponse g p y)) ≡ bestValue g p y

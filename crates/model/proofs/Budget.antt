@@ -15,15 +15,14 @@ use Rattle.algebra.proofs.Counts.{only, only-le, only-most, only-scale, count-l
 use Rattle.model.specs.Bits.{field}
 use Rattle.model.specs.Game.{Game, gameOf, Player, one, two, other, isLeaf, payoffAt, nodeAt}
 use Rattle.model.specs.Sequences.{Sequence, same, ownSequence}
-use Rattle.model.specs.Plan.{RealizationPlan, PlanPair, sequenceWeight, weightAt, planPairOf}
+use Rattle.model.specs.Plan.{RealizationPlan, PlanPair, sequenceWeight, weightAt, planPairOf, Fits}
 use Rattle.model.specs.Table.{standsAt, weightedPayoff}
 use Rattle.model.specs.Earnings.{PureStrategy, listed, consistent, IsPure, leafTerm, pureCount, againstBase, valueBase, valueTerm, valueCount}
 use Rattle.model.specs.BestResponse.{leadsTo, greatestWorth, leavesWorth, worthIn, bestCount, bestResponse}
 use Rattle.model.specs.Verdict.{scaledBest, gain}
 use Rattle.model.specs.Budget.{weightLimit}
-use Rattle.model.specs.Demand1.{GameRules}
+use Rattle.model.specs.Rules.{GameRules}
 use Rattle.model.proofs.Bits.{field-fits, signed-abs}
-use Rattle.model.proofs.Duality.{Fits}
 use Rattle.model.proofs.Strategies.{purePlan, pure-fits, pure-prefix}
 use Rattle.model.proofs.BestResponses.{response-pure, response-earns}
 use Rattle.model.proofs.Earnings.{bases-agree, own-prefix}

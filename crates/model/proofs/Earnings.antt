@@ -1,14 +1,32 @@
--- A player's own plan earns his value; the bases of fractions.
-use Prim.Native.Nat.{ℕ, _*_}
-use mathlib.Core.Path.{_≡_, sym, ap, _∙_}
+-- A player's own plan earns his value; fractions and their bases.
+use Prim.Native.Nat.{ℕ, _*_, _<_}
+use mathlib.Core.Path.{_≡_, sym, ap, _∙_, subst}
 use native.Mathlib.Nat as NatL
-use lib.IntN.{pos, _*ℤ_}
+use lib.IntN.{ℤ, pos, _*ℤ_}
+use lib.Signed.{_≤ℤ_}
 use Rattle.algebra.specs.Bounded.{sumWhere}
-use Rattle.algebra.proofs.Integers.{scale-scale}
+use Rattle.algebra.proofs.Integers.{scale-mono, scale-scale, scale-cancel}
 use Rattle.algebra.proofs.Sums.{where-cong}
 use Rattle.model.specs.Game.{Game, Player, one, two, other, isLeaf}
 use Rattle.model.specs.Plan.{PlanPair, weightAt}
 use Rattle.model.specs.Earnings.{leafTerm, againstBase, planCount, planEarnings, valueBase, valueTerm, valueCount, value}
+
+-- Fractions over the bases that occur: E, and d times E.
+-- what is at most a count once multiplied by d is at most it as a fraction
+pub fraction-at-most : (d E : ℕ) (a c : ℤ) → (pos d *ℤ a) ≤ℤ c → (pos (d * E) *ℤ a) ≤ℤ (pos E *ℤ c)
+fraction-at-most d E a c h =
+    subst (λ (z : ℤ). z ≤ℤ (pos E *ℤ c)) (scale-scale E d a ∙ ap (λ (k : ℕ). pos k *ℤ a) (NatL.mul-comm E d)) (scale-mono E h)
+
+-- and the other way round, where E is above 0
+pub fraction-cancel : (d E : ℕ) (a c : ℤ) → 0 < E → (pos (d * E) *ℤ a) ≤ℤ (pos E *ℤ c) → (pos d *ℤ a) ≤ℤ c
+fraction-cancel d E a c z h =
+    scale-cancel E (pos d *ℤ a) c z
+    (subst (λ (z : ℤ). z ≤ℤ (pos E *ℤ c)) (sym (scale-scale E d a ∙ ap (λ (k : ℕ). pos k *ℤ a) (NatL.mul-comm E d))) h)
+
+-- a mixture that counts at most t times as much is at most as much
+pub mixture-at-most : (t E : ℕ) (m a : ℤ) → m ≤ℤ (pos t *ℤ a) → (pos E *ℤ m) ≤ℤ (pos (t * E) *ℤ a)
+mixture-at-most t E m a h =
+    subst (λ (z : ℤ). (pos E *ℤ m) ≤ℤ z) (scale-scale E t a ∙ ap (λ (k : ℕ). pos k *ℤ a) (NatL.mul-comm E t)) (scale-mono E h)
 
 module _ (g : Game) (q : PlanPair) where
   -- p's denominator × D0 × the other's is D0 × D1 × D2

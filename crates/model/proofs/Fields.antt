@@ -6,9 +6,8 @@ use lib.Dec.{leb→le, le→leb, ltb→lt, lt→ltb}
 use lib.ListN.{getD}
 use lib.IntN.{ℤ, pos, negsuc, negℤ}
 use lib.Signed.{_≤ℤ_}
-use Rattle.model.specs.Writing.{GameFields, entry, fitsSigned, setCount, nodeCount, gameFieldsFit, planFieldsFit}
-use Rattle.model.specs.Calls.{PlanFields}
-use Rattle.model.specs.Demand1.{FieldsFit, PlanFieldsFit}
+use Rattle.model.specs.Writing.{GameFields, entry, fitsSigned, setCount, nodeCount, gameFieldsFit, planFieldsFit, PlanFields}
+use Rattle.model.specs.Rules.{FieldsFit, PlanFieldsFit}
 use Rattle.model.proofs.Decisions.{Decides, same-iff}
 use Rattle.model.proofs.Fitting.{InRange, Lacks, kind-below, Fitting, game-fields-iff, plan-fields-iff}
 

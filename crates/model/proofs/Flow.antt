@@ -12,11 +12,10 @@ use Rattle.algebra.proofs.Counts.{only, only-cong, only-scale, only-swap, count
 use Rattle.model.specs.Game.{Game, Player, one, two, other, owns, isLeaf, isDecision, isChance}
 use Rattle.model.specs.Sequences.{Sequence, acts, ownSequence}
 use Rattle.model.specs.GameChecks.{childrenWeight}
-use Rattle.model.specs.Plan.{PlanPair, sequenceWeight, weightAt}
-use Rattle.model.specs.Demand1.{GameRules}
+use Rattle.model.specs.Plan.{PlanPair, sequenceWeight, weightAt, Fits}
+use Rattle.model.specs.Rules.{GameRules}
 use Rattle.model.proofs.Sequences.{weight-empty, weight-extended}
 use Rattle.model.proofs.Tree.{player-refl, not-other, below, below-is, acts-parts, decision-kind, chance-kind, decision-moves, own-root, own-step, parent-in, in-own-set, own-leading, leaf-childless, children}
-use Rattle.model.proofs.Duality.{Fits}
 
 -- three factors, the last two changed about
 turn : (w x y : ℕ) → w * (x * y) ≡ w * y * x

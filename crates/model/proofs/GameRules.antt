@@ -12,7 +12,7 @@ use Rattle.model.specs.Game.{Game, gameOf, nodeAt, isLeaf, isDecision, i
 use Rattle.model.specs.Sequences.{Sequence, ownSequence, same}
 use Rattle.model.specs.GameChecks.{isMoveCount, pathLimit, hasHeader, hasEdition, gameLength, hasLength, paddingZero, recordsWellFormed, countsPositive, setMovesInRange, payloadInRange, payloadsInRange, attached, nodesAttached, isChild, shareMove, movesLeadOn, childrenWeight, weightInherited, weightShared, weightsObeyRules, depthIn, depth, pathsInLimit, setsNonEmpty, recallAt, perfectRecall}
 use Rattle.model.specs.Reasons.{IsChildAt, PathTo, root, down}
-use Rattle.model.specs.Demand1.{ExactlyOne}
+use Rattle.model.specs.Rules.{ExactlyOne}
 use Rattle.model.proofs.Bits.{field-fits}
 use Rattle.model.proofs.Sequences.{same→eq, eq→same}
 use Rattle.model.proofs.Tree.{leaf-moves}

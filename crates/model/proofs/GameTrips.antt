@@ -14,7 +14,7 @@ use Rattle.algebra.proofs.Lists.{length-listTo, listTo-at, listTo-is}
 use Rattle.model.specs.Bits.{field, pack, signed, twosComplement}
 use Rattle.model.specs.Game.{Game, gameOf, setAt, nodeAt, payoffAt, Player, one, two, playerOf, playerBit, isLeaf, isDecision, isChance}
 use Rattle.model.specs.Writing.{GameFields, playerField, setField, movesField, payoffField, fieldsOf, entry, entryZ, setCount, nodeCount, setBits, payloadBits, nodeBits, headerBits, gameBytes, gameFieldsFit}
-use Rattle.model.specs.Demand1.{GameFile}
+use Rattle.model.specs.Rules.{GameFile}
 use Rattle.model.specs.Demand2.{IsBytes}
 use Rattle.model.proofs.Tree.{bit-below, bit-back}
 use Rattle.model.proofs.Bits.{field-fits, signed-fits, twos-fits, twos-signed, signed-twos}
@@ -45,7 +45,7 @@ module _ (t : GameFields) where
   frontBits = cellBits headerCells ++ joinTo (setCount t) (λ h. cellBits (setCells h))
 
   -- the bits of the file
-  gameBits : List ℕ
+  pub gameBits : List ℕ
   gameBits = frontBits ++ joinTo (nodeCount t) (λ n. cellBits (nodeCells n))
 
   -- a payload's bits are its cells'
@@ -56,7 +56,7 @@ module _ (t : GameFields) where
   payload-is (suc (suc k)) n = simp append-nil
 
   -- the file is these bits, packed
-  game-is : gameBytes t ≡ pack gameBits
+  pub game-is : gameBytes t ≡ pack gameBits
   unfolding gameBytes headerBits setBits nodeBits gameBits frontBits
   game-is = λ i. pack (header i ++ joinTo (setCount t) (λ h. set h i) ++ joinTo (nodeCount t) (λ n. node n i))
     where
@@ -84,7 +84,7 @@ module _ (t : GameFields) where
   bitlist-front = bitlist-append (bitlist-cells headerCells refl) (bitlist-records setCells (λ h. refl) (setCount t))
 
   -- how many bits the file has
-  bitlist-game : BitList (40 + 8 * setCount t + 64 * nodeCount t) gameBits
+  pub bitlist-game : BitList (40 + 8 * setCount t + 64 * nodeCount t) gameBits
   unfolding gameBits
   bitlist-game = bitlist-append bitlist-front (bitlist-records nodeCells node-width (nodeCount t))
 
@@ -207,12 +207,12 @@ module _ (t : GameFields) (fit : Fitting t) (bytes : List ℕ) where
 
 module _ (g : Game) where
   -- the lists show H
-  set-count : setCount (fieldsOf g) ≡ g .sets
+  pub set-count : setCount (fieldsOf g) ≡ g .sets
   unfolding fieldsOf setCount
   set-count = length-listTo (g .sets) (playerField g)
 
   -- the lists show N
-  node-count : nodeCount (fieldsOf g) ≡ g .nodes
+  pub node-count : nodeCount (fieldsOf g) ≡ g .nodes
   unfolding fieldsOf nodeCount
   node-count = length-listTo (g .nodes) (g .kind)
 

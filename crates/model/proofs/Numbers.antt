@@ -6,19 +6,19 @@ use mathlib.Core.List.{List, [], _∷_, _++_}
 use native.Mathlib.Omega.{arith}
 use native.Mathlib.Decide.{ℕ-discrete, decLt}
 use lib.Dec.{T, eqb, eqb→eq, ltb, lt→ltb, T-not}
-use lib.ListN.{length, getD, length-append, List·getD-append}
+use lib.ListN.{length, getD, List·getD-append}
 use lib.Seq.{getD-append-add}
 use Rattle.algebra.specs.Bounded.{countTo, joinTo, listTo}
 use Rattle.algebra.proofs.Tests.{cond-yes, cond-no}
 use Rattle.algebra.proofs.Counts.{only, only-most, only-swap, count-suc, count-cong, count-le, count-zero, count-ones, count-plus, count-swap, count-less, count-one, count-pick, count-key, count-split}
-use Rattle.algebra.proofs.Lists.{length-listTo, listTo-at}
+use Rattle.algebra.proofs.Lists.{length-joins, length-listTo, listTo-at}
 use Rattle.model.specs.Game.{Game, Player, one, two, samePlayer, owns, nodeMoves, movesBefore}
-use Rattle.model.specs.Sequences.{Sequence, extended, ownSequence, firstNode, leading, moveNumber, sequenceNumber, sequenceCount}
+use Rattle.model.specs.Sequences.{Sequence, extended, ownSequence, firstNode, leading, moveNumber, sequenceNumber, leadingNumber, sequenceCount}
 use Rattle.model.specs.Table.{ownNumber}
-use Rattle.model.specs.Demand1.{GameRules}
-use Rattle.model.specs.Demand2.{sequencesOf, sequenceAt}
+use Rattle.model.specs.Rules.{GameRules}
+use Rattle.model.specs.Demand2.{sequencesOf, sequenceAt, IsNumber}
 use Rattle.model.proofs.Sequences.{number-empty, number-extended}
-use Rattle.model.proofs.Tree.{IsSequence, empty, after, parent-in, first-in, first-set, own-sequence, children}
+use Rattle.model.proofs.Tree.{player-refl, IsSequence, empty, after, leading-sequence, parent-in, first-in, first-set, own-sequence, children}
 
 module _ (g : Game) (p : Player) where
   -- the moves of a set of p's come before those of a later set
@@ -63,21 +63,15 @@ module _ (g : Game) (p : Player) where
       let d = number-move h m k n o o′ b b′ (sym (number-extended g p (leading g h) h m) ∙ e ∙ number-extended g p (leading g k) k n) in
       λ i. extended (leading g (d .0 i)) (d .0 i) (d .1 i)
 
--- how long joined lists are together
-length-joined {ℓ} : {A : Type ℓ} (n : ℕ) (f : ℕ → List A) → length (joinTo n f) ≡ countTo n (λ i. length (f i))
-unfolding joinTo countTo
-length-joined zero f = refl
-length-joined (suc n) f = length-append (joinTo n f) (f n) ∙ ap (λ (k : ℕ). k + length (f n)) (length-joined n f)
-
--- and where the elements of one of them stand
+-- where the elements of one of the joined lists are
 joined-at {ℓ} : {A : Type ℓ} (d : A) (n : ℕ) (f : ℕ → List A) (h m : ℕ) → h < n → m < length (f h) → getD (joinTo n f) (countTo h (λ i. length (f i)) + m) d ≡ getD (f h) m d
 unfolding joinTo
 joined-at d zero f h m l b = absurd (omega arith)
 joined-at {A = A} d (suc n) f h m l b =
     let size : ℕ → ℕ = λ i. length (f i) in
     elim (ℕ-discrete h n) [
-      | yes e ↦ ap (λ (k : ℕ). getD (joinTo n f ++ f n) (k + m) d) (ap (λ (k : ℕ). countTo k size) e ∙ sym (length-joined n f)) ∙ getD-append-add (joinTo n f) (f n) m d ∙ ap (λ (k : ℕ). getD (f k) m d) (sym e)
-      | no e ↦ List·getD-append (joinTo n f) (f n) d (countTo h size + m) (omega (arith, length-joined n f, count-less n (suc h) size (omega arith), count-suc h size)) ∙ joined-at d n f h m (omega arith) b
+      | yes e ↦ ap (λ (k : ℕ). getD (joinTo n f ++ f n) (k + m) d) (ap (λ (k : ℕ). countTo k size) e ∙ sym (length-joins n f)) ∙ getD-append-add (joinTo n f) (f n) m d ∙ ap (λ (k : ℕ). getD (f k) m d) (sym e)
+      | no e ↦ List·getD-append (joinTo n f) (f n) d (countTo h size + m) (omega (arith, length-joins n f, count-less n (suc h) size (omega arith), count-suc h size)) ∙ joined-at d n f h m (omega arith) b
     ]
 
 module _ (g : Game) (p : Player) where
@@ -120,6 +114,17 @@ module _ (g : Game) (R : GameRules g) where
   pub own-number-below : (p : Player) (n : ℕ) → n < g .nodes → ownNumber g p n < sequenceCount g p
   unfolding ownNumber
   own-number-below p n l = number-below g p (ownSequence g p n) (own-sequence g R p n l)
+
+  -- both, and for the own sequence leading to a set
+  pub own-number : (p : Player) (n : ℕ) → n < g .nodes → IsNumber g p (ownNumber g p n) (ownSequence g p n)
+  own-number p n l = (own-number-below p n l, own-number-place p n l)
+
+  pub leading-number : (h : ℕ) → h < g .sets → IsNumber g (g .setPlayer h) (leadingNumber g h) (leading g h)
+  unfolding leadingNumber owns
+  leading-number h l =
+      let p = g .setPlayer h in
+      let s = leading-sequence g R p h l (player-refl p) in
+      (number-below g p (leading g h) s, number-place g p (leading g h) s)
 
   -- every node but the root stands at one move
   nodes-at-moves : countTo (g .nodes) (nodeMoves g) + 1 ≡ g .nodes

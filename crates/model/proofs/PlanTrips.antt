@@ -11,7 +11,7 @@ use Rattle.model.specs.Bits.{field, fields, runBits, pack}
 use Rattle.model.specs.Game.{Game, one, two}
 use Rattle.model.specs.Plan.{planMoves, planPairOf, planWeights, weightBit}
 use Rattle.model.specs.Writing.{planBytes, planFieldsFit}
-use Rattle.model.specs.Demand1.{PlanFile}
+use Rattle.model.specs.Rules.{PlanFile}
 use Rattle.model.specs.Demand2.{IsBytes}
 use Rattle.model.proofs.Bits.{field-fits, length-fields}
 use Rattle.model.proofs.Fitting.{FitsWidth, column, PlanFitting, plan-fields-iff}
@@ -23,16 +23,16 @@ module _ (d1 d2 : ℕ) (weights : List ℕ) where
   headerCells = (4, 1) ∷ (12, d1) ∷ (12, d2) ∷ (4, 0) ∷ []
 
   -- the bits of the file
-  planBits : List ℕ
+  pub planBits : List ℕ
   planBits = cellBits headerCells ++ runBits 12 weights
 
   -- the file is these bits, packed
-  plan-is : planBytes d1 d2 weights ≡ pack planBits
+  pub plan-is : planBytes d1 d2 weights ≡ pack planBits
   unfolding planBytes planBits
   plan-is = ap pack (simp (append-assoc, append-nil))
 
   -- how many bits the file has
-  bitlist-plan : BitList (32 + 12 * length weights) planBits
+  pub bitlist-plan : BitList (32 + 12 * length weights) planBits
   unfolding planBits
   bitlist-plan = bitlist-append (bitlist-cells headerCells refl) (bitlist-run 12 weights)
 

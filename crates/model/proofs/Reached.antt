@@ -10,7 +10,7 @@ use Rattle.algebra.proofs.Tests.{dec, cond-yes, cond-no}
 use Rattle.algebra.proofs.Counts.{count-suc}
 use Rattle.model.specs.Game.{Game, Player, owns, inSet, movesBefore}
 use Rattle.model.specs.Sequences.{Sequence, extended, acts, ownSequence, firstNode, leading, moveNumber, sequenceNumber, sequenceCount}
-use Rattle.model.specs.Demand1.{GameRules}
+use Rattle.model.specs.Rules.{GameRules}
 use Rattle.model.proofs.Sequences.{extended-inj, extended-nonempty, number-empty, number-extended}
 use Rattle.model.proofs.Tree.{IsSequence, empty, after, owner, own-root, own-step, acts-parts, in-own-set, parent-in, first-in, first-least}
 

@@ -11,13 +11,14 @@ use Rattle.algebra.specs.Bounded.{allTo, anyTo, countTo}
 use Rattle.model.specs.Bits.{field}
 use Rattle.model.specs.Game.{Game, gameOf, nodeAt, Player, one, two, owns, inSet, nodeMoves}
 use Rattle.model.specs.Sequences.{ownSequence, leading}
-use Rattle.model.specs.GameChecks.{isMoveCount, pathLimit, hasHeader, hasEdition, gameLength, hasLength, paddingZero, recordsWellFormed, countsPositive, setMovesInRange, payloadInRange, payloadsInRange, attached, nodesAttached, isChild, shareMove, movesLeadOn, childrenWeight, weightInherited, weightShared, weightsObeyRules, depthIn, depth, pathsInLimit, setsNonEmpty, recallAt, perfectRecall, headerChecks, treeChecks, gameChecks}
+use Rattle.model.specs.GameChecks.{isMoveCount, pathLimit, hasHeader, hasEdition, gameLength, hasLength, paddingZero, recordsWellFormed, countsPositive, setMovesInRange, payloadInRange, payloadsInRange, attached, nodesAttached, isChild, shareMove, movesLeadOn, childrenWeight, weightInherited, weightShared, weightsObeyRules, depthIn, depth, pathsInLimit, setsNonEmpty, recallAt, perfectRecall}
 use Rattle.model.specs.Plan.{PlanPair, sequenceWeight, balanced, fits, pairFits, planMoves, planPairOf}
-use Rattle.model.specs.PlanChecks.{Files, planLength, planHasLength, filling, planWellFormed, planChecks}
-use Rattle.model.specs.Calls.{longEnough}
-use Rattle.model.specs.Reasons.{PathTo, NoMoveCount, PaddingSpoilt, PayloadOutside, Misplaced, ShareMove, LeadsNowhere, NotInherited, WeightWrong, BreaksRecall, Unbalanced, PlanIllFormed, gameReasons, planReasons, Shorter}
+use Rattle.model.specs.PlanChecks.{Files, planLength, planHasLength, filling, planWellFormed}
+use Rattle.model.specs.Call.{longEnough, Shorter}
+use Rattle.model.specs.Reasons.{PathTo, NoMoveCount, PaddingSpoilt, PayloadOutside, Misplaced, ShareMove, LeadsNowhere, NotInherited, WeightWrong, BreaksRecall, Unbalanced, PlanIllFormed}
 use Rattle.model.proofs.Decisions.{Fails, itself-iff, eqb-iff, ltb-iff, and-iff, any-iff, no-fails, same-fails, eqb-fails, leb-fails, ltb-fails, not-fails, and-fails, implies-fails, all-fails}
-use Rattle.model.proofs.Refusals.{Agree}
+use Rattle.model.proofs.Rows.{Sound}
+use Rattle.model.specs.Checks.{headerRows, recordRows, treeRows, gameRows, planRows}
 use Rattle.model.proofs.GameRules.{leaf-iff, decision-iff, chance-iff, child-iff, sequences-iff, attached-iff, counts-iff, path-depth, some-path}
 
 -- three alternatives, regrouped
@@ -142,50 +143,35 @@ module _ (bytes : List ℕ) where
       (and-fails (implies-fails (decision-iff g n) (eqb-fails (field bytes (nodeAt bytes n + 44) 20) 0)) (implies-fails (chance-iff g n) (eqb-fails (field bytes (nodeAt bytes n + 39) 25) 0))))
 
   -- each check of a game file against its refusal
-  pub game-agrees : Agree gameChecks gameReasons bytes
-  unfolding gameChecks headerChecks treeChecks gameReasons hasHeader hasEdition hasLength gameLength
-  game-agrees =
+  pub game-sound : Sound gameRows bytes
+  unfolding gameRows headerRows recordRows treeRows hasHeader hasEdition hasLength gameLength
+  game-sound =
       let g = gameOf bytes in (
-        refl,
         leb-fails 5 (length bytes),
         λ t1. (
-          refl,
           eqb-fails (field bytes 0 4) 1,
           λ t2. (
-            refl,
             counts-fails g,
             λ t3. (
-              refl,
               eqb-fails (length bytes) (5 + g .sets + 8 * g .nodes),
               λ t4. (
-                refl,
                 set-moves-fails g,
                 λ t5. (
-                  refl,
                   records-fails,
                   λ t6. (
-                    refl,
                     payloads-fails g,
                     λ t7. (
-                      refl,
                       attached-fails g,
                       λ t8. (
-                        refl,
                         moves-fails g,
                         λ t9. (
-                          refl,
                           weights-fails g,
                           λ t10. (
-                            refl,
                             paths-fails g (λ n l. attached-iff g (counts-iff g .holds t3 .0) .holds t8 .1 n l .0),
                             λ t11. (
-                              refl,
                               set-node-fails g,
-                              λ t12. (
-                                refl,
-                                recall-fails g,
-                                λ t13. tt,
-                              ),
+                              λ t12.
+                                  (recall-fails g, λ t13. tt),
                             ),
                           ),
                         ),
@@ -232,26 +218,20 @@ module _ (g : Game) where
       (and-fails (fits-fails q one) (fits-fails q two))
 
 -- each check of a plan file against its refusal
-pub plan-agrees : (f : Files) → Agree planChecks planReasons f
-unfolding planChecks planReasons planHasLength planLength
-plan-agrees f =
+pub plan-sound : (f : Files) → Sound planRows f
+unfolding planRows planHasLength planLength
+plan-sound f =
     let g = gameOf (f .game) in (
-      refl,
       eqb-fails (length (f .plan)) (4 + (12 * planMoves g + 7) / 8),
       λ t14. (
-        refl,
         well-formed-fails g (f .plan),
-        λ t15. (
-          refl,
-          pair-fits-fails g (planPairOf g (f .plan)),
-          λ t16. tt,
-        ),
+        λ t15.
+            (pair-fits-fails g (planPairOf g (f .plan)), λ t16. tt),
       ),
     )
 
 -- check 18
 pub room-fails : (results rooms : List ℕ) → Fails (longEnough results rooms) (Shorter results rooms)
-room-fails [] [] = record { applies = λ n. n tt; fails = λ h t. h }
-room-fails [] (r ∷ rooms) = record { applies = λ n. n tt; fails = λ h t. h }
+room-fails [] rooms = record { applies = λ n. n tt; fails = λ h t. h }
 room-fails (n ∷ results) [] = record { applies = λ n. tt; fails = λ h t. t }
 room-fails (n ∷ results) (r ∷ rooms) = and-fails (leb-fails n r) (room-fails results rooms)

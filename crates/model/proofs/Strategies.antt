@@ -14,13 +14,14 @@ use Rattle.algebra.proofs.Counts.{only, only-only, count-cong, count-pick}
 use Rattle.algebra.proofs.Sums.{onlyZ, sum-cong, whereZ-is, where-tests}
 use Rattle.model.specs.Game.{Game, Player, owns, isLeaf}
 use Rattle.model.specs.Sequences.{Sequence, extended, acts, ownSequence, leading}
-use Rattle.model.specs.Plan.{RealizationPlan, sequenceWeight, weightAt}
-use Rattle.model.specs.Earnings.{Equal, PureStrategy, MixedStrategy, consistent, totalWeight, IsPure, PartsPure, leafTerm, pureCount, againstBase, pureEarnings, mixedCount, mixedEarnings, planCount}
+use Rattle.model.specs.Plan.{RealizationPlan, sequenceWeight, weightAt, Fits}
+use Rattle.model.specs.Earnings.{Equal, PureStrategy, MixedStrategy, consistent, totalWeight, IsPure, PartsPure, IsMixed, leafTerm, pureCount, againstBase, pureEarnings, mixedCount, mixedEarnings, planCount}
 use Rattle.model.specs.BestResponse.{bestCount}
-use Rattle.model.specs.Demand1.{GameRules}
+use Rattle.model.specs.Rules.{GameRules}
+use Rattle.model.specs.Demand3.{StrategiesExist}
 use Rattle.model.proofs.Sequences.{weight-empty, weight-extended, consistent-extended}
 use Rattle.model.proofs.Tree.{IsSequence, empty, after, acts-parts, own-root, own-step, parent-in, in-own-set, own-sequence, leading-sequence}
-use Rattle.model.proofs.Duality.{Fits, plan-at-most}
+use Rattle.model.proofs.Duality.{plan-at-most}
 
 -- the realization plan of a pure strategy: 1 for each sequence that is consistent with it
 unfoldable pub purePlan : Game → PureStrategy → RealizationPlan
@@ -105,3 +106,12 @@ mixed-of-one g p y w σ =
     let E = againstBase g y in
     rw (+ℤ-idr (pos w *ℤ pureCount g p y σ), NatL.add-zero w)
     (scale-scale E w (pureCount g p y σ) ∙ ap (λ (k : ℕ). pos k *ℤ pureCount g p y σ) (NatL.mul-comm E w))
+
+-- there are strategies: move 0 everywhere is one, alone it is mixed, and any pure one joins a mixed one
+pub strategies-exist : (g : Game) → GameRules g → StrategiesExist g
+unfolding IsPure IsMixed PartsPure totalWeight
+strategies-exist g R = record {
+  pure = λ p. (λ h. 0, λ h l o. R .set-moves h l .0);
+  mixed = λ p σ weight legal some. ((legal, tt), omega arith);
+  more = λ p σ weight μ legal mixed. ((legal, mixed .0), omega (arith, mixed .1));
+}

@@ -5,9 +5,10 @@ use mathlib.Core.Bool.{Bool, true, false, _&&_, cond}
 use mathlib.Core.List.{List, [], _∷_, _++_}
 use native.Mathlib.Nat as NatL
 use lib.Dec.{T, eqb, eqb→eq}
-use mir.Facts.{and-yes}
+use mir.Facts.{and-yes, yes-and}
 use lib.IntN.{ℤ, pos, _+ℤ_, _*ℤ_, +ℤ-assoc, +ℤ-idr, +ℤ-idl}
 use Rattle.algebra.specs.Bounded.{sumTo, sumWhere, anyTo, joinTo}
+use Rattle.algebra.proofs.Tests.{eqb-make}
 use Rattle.algebra.proofs.Searches.{anyTo-make}
 use Rattle.algebra.proofs.Integers.{scale-scale}
 use Rattle.algebra.proofs.Sums.{onlyZ, sum-cong, sum-zero, sum-swap, sum-pick, whereZ-is, where-cong, where-none, where-scale}
@@ -16,7 +17,7 @@ use Rattle.model.specs.Sequences.{sequenceCount, ownSequence}
 use Rattle.model.specs.Plan.{PlanPair, weightAt, RealizationPlan, sequenceWeight}
 use Rattle.model.specs.Table.{Row, ownNumber, standsAt, weightedPayoff, pairSum, rowAt, rowsAt, payoffTable}
 use Rattle.model.specs.Earnings.{valueTerm, valueCount}
-use Rattle.model.specs.Demand1.{GameRules}
+use Rattle.model.specs.Rules.{GameRules}
 use Rattle.model.specs.Demand2.{sumOf, tableSum, numberWeight}
 use Rattle.model.proofs.Numbers.{own-number-below, own-number-place}
 
@@ -32,13 +33,20 @@ table-join p x y zero f = refl
 table-join p x y (suc n) f = table-append p x y (joinTo n f) (f n) ∙ ap (λ (z : ℤ). z +ℤ tableSum p x y (f n)) (table-join p x y n f)
 
 -- what it says that a leaf stands at a pair
-stands-parts : (g : Game) (s t n : ℕ) → T (standsAt g s t n) → (ownNumber g one n ≡ s) × (ownNumber g two n ≡ t)
+pub stands-parts : (g : Game) (s t n : ℕ) → T (standsAt g s t n) → T (isLeaf g n) × (ownNumber g one n ≡ s) × (ownNumber g two n ≡ t)
 unfolding standsAt
 stands-parts g s t n u =
     let a = eqb (ownNumber g one n) s in
     let b = eqb (ownNumber g two n) t in
     let c = and-yes (isLeaf g n && a) b u in
-    (eqb→eq (ownNumber g one n) s (and-yes (isLeaf g n) a (c .0) .1), eqb→eq (ownNumber g two n) t (c .1))
+    let d = and-yes (isLeaf g n) a (c .0) in
+    (d .0, eqb→eq (ownNumber g one n) s (d .1), eqb→eq (ownNumber g two n) t (c .1))
+
+pub stands-make : (g : Game) (s t n : ℕ) → T (isLeaf g n) → ownNumber g one n ≡ s → ownNumber g two n ≡ t → T (standsAt g s t n)
+unfolding standsAt
+stands-make g s t n leaf e f =
+    let a = eqb (ownNumber g one n) s in
+    yes-and (isLeaf g n && a) (eqb (ownNumber g two n) t) (yes-and (isLeaf g n) a leaf (eqb-make (ownNumber g one n) s e)) (eqb-make (ownNumber g two n) t f)
 
 -- the weights x are the plan's, by the numbers of p's own sequences
 abbrev pub ByNumber : Game → Player → RealizationPlan → (ℕ → ℕ) → Type 0
@@ -50,8 +58,8 @@ module _ (g : Game) (R : GameRules g) (q : PlanPair) (x y : ℕ → ℕ) (x-is :
   unfolding weightedPayoff valueTerm weightAt
   term s t n l u =
       let e = stands-parts g s t n u in
-      let ex : x s ≡ weightAt g (q one) one n = ap x (sym (e .0)) ∙ x-is n l in
-      let ey : y t ≡ weightAt g (q two) two n = ap y (sym (e .1)) ∙ y-is n l in
+      let ex : x s ≡ weightAt g (q one) one n = ap x (sym (e .1)) ∙ x-is n l in
+      let ey : y t ≡ weightAt g (q two) two n = ap y (sym (e .2)) ∙ y-is n l in
       scale-scale (x s * y t) (g .weight n) (g .payoff p n)
       ∙ ap (λ (k : ℕ). pos k *ℤ g .payoff p n)
       (rw (ex, ey) (NatL.mul-comm (weightAt g (q one) one n * weightAt g (q two) two n) (g .weight n) ∙ sym (NatL.mul-assoc (g .weight n) (weightAt g (q one) one n) (weightAt g (q two) two n))))

@@ -15,7 +15,7 @@ use Rattle.model.specs.Game.{Game, Player, one, two, other, samePlayer, 
 use Rattle.model.specs.Sequences.{Sequence, extended, acts, walk, ownSequence, firstNode, leading}
 use Rattle.model.specs.GameChecks.{isChild}
 use Rattle.model.specs.Reasons.{IsChildAt}
-use Rattle.model.specs.Demand1.{ExactlyOne, GameRules}
+use Rattle.model.specs.Rules.{ExactlyOne, GameRules}
 use Rattle.model.proofs.Sequences.{extended-length}
 
 -- players that pass the test are the same

@@ -13,7 +13,7 @@ use Rattle.model.specs.Game.{Game, Player, owns, isLeaf}
 use Rattle.model.specs.Sequences.{Sequence, extended, same, ownSequence, leading}
 use Rattle.model.specs.Plan.{RealizationPlan}
 use Rattle.model.specs.BestResponse.{leadsTo, greatestWorth, leavesWorth, worthIn, worth, setWorth}
-use Rattle.model.specs.Demand1.{GameRules}
+use Rattle.model.specs.Rules.{GameRules}
 use Rattle.model.proofs.Sequences.{same→eq, extended-length}
 use Rattle.model.proofs.Tree.{own-length, leading-length}
 

@@ -1,184 +1,60 @@
--- Demand 1: what is good, a file in the words of "The two files" and fields clause by clause of 17, and what each entry point answers.
-use Prim.Native.Nat.{ℕ, suc, _+_, _*_, _/_, _^_, _≤_, _<_}
+-- Demand 1, call by call: what is good is taken, and any other input gets the first refusal that applies.
+use Prim.Native.Nat.{ℕ, _<_}
 use mathlib.Core.Path.{_≡_}
-use mathlib.Core.Logic.{_↔_}
-use mathlib.Core.List.{List, [], _∷_}
-use lib.ListN.{length, getD, take, drop}
-use lib.Dec.{T}
-use lib.IntN.{ℤ, pos, negℤ}
-use lib.Signed.{_≤ℤ_}
-use Rattle.algebra.specs.Bounded.{countTo}
-use Rattle.model.specs.Bits.{bit, field}
-use Rattle.model.specs.Game.{Game, gameOf, nodeAt, Player, owns, inSet, nodeMoves}
-use Rattle.model.specs.Sequences.{ownSequence, leading}
-use Rattle.model.specs.Refusals.{Checks, firstFailing}
-use Rattle.model.specs.GameChecks.{childrenWeight, gameChecks}
-use Rattle.model.specs.Plan.{sequenceWeight, planMoves, planPairOf}
-use Rattle.model.specs.PlanChecks.{Files, pairChecks}
-use Rattle.model.specs.Writing.{GameFields}
-use Rattle.model.specs.Calls.{afterCall, Lent, PlanFields, setNumberChecks, nodeNumberChecks, gameFieldLengths, gameFieldsChecks, weightLengths, planFieldsChecks, tableLengths, tableChecks, rowsLengths, rowsChecks, strategyLengths, verdictChecks, reportLengths, reportChecks, lineLengths, refusalLineChecks, gameFileLengths, gameWriterChecks, planFileLengths, planWriterChecks}
-use Rattle.model.specs.Reasons.{Reasons, FirstThatApplies, IsChildAt, PathTo, gameReasons, pairReasons, orMissing, orShort}
+use mathlib.Core.List.{List}
+use Rattle.model.specs.Game.{Game, gameOf}
+use Rattle.model.specs.Rules.{GameFile, GoodFiles, FieldsFit, PlanFieldsFit}
+use Rattle.model.specs.Writing.{gameBytes}
+use Rattle.model.specs.Rows.{First}
+use Rattle.model.specs.Call.{given, refused, Buffers, lengths, RoomFor, afterAll, Call, outcome, allRows, run}
+use Rattle.model.specs.calls.Asked.{Asked}
+use Rattle.model.specs.calls.CheckGame as CheckGame
+use Rattle.model.specs.calls.SetEntry as SetEntry
+use Rattle.model.specs.calls.NodeRecord as NodeRecord
+use Rattle.model.specs.calls.OwnSequence as OwnSequence
+use Rattle.model.specs.calls.GameFields as GameFields
+use Rattle.model.specs.calls.CheckPlan as CheckPlan
+use Rattle.model.specs.calls.PlanFields as PlanFields
+use Rattle.model.specs.calls.PayoffTable as PayoffTable
+use Rattle.model.specs.calls.Values as Values
+use Rattle.model.specs.calls.Verdict as Verdict
+use Rattle.model.specs.calls.Report as Report
+use Rattle.model.specs.calls.RefusalLine as RefusalLine
+use Rattle.model.specs.calls.WriteGame as WriteGame
+use Rattle.model.specs.calls.WritePlan as WritePlan
+use Rattle.model.specs.calls.RewriteGame as RewriteGame
+use Rattle.model.specs.calls.RewritePlan as RewritePlan
+use Rattle.model.specs.calls.RereadGame as RereadGame
+use Rattle.model.specs.calls.RereadPlan as RereadPlan
 
--- one number has the property, and no other
-abbrev pub ExactlyOne : (ℕ → Type 0) → Type 0
-ExactlyOne P = (c : ℕ) × P c × ((b : ℕ) → P b → b ≡ c)
+-- What demand 1 says of a call.
+pub record Clause {I R : Type 0} {shape : List (Type 0)} (c : Call I shape R) (Good : I → Type 0) : Type 0 where
+  -- what is good is taken "where the result buffers are long enough": the result is given, and stands at the front of the buffers
+  pub taken : (i : I) (b : Buffers shape) → Good i → RoomFor (lengths shape (c .written i)) (lengths shape b) → run c i b ≡ outcome (given (c .result i)) (afterAll shape 0 (c .written i) b)
+  -- "Any other input gets the first refusal .. that applies to that call, and result buffers keep the contents they came with."
+  pub other : (i : I) (b : Buffers shape) → ¬ (Good i × RoomFor (lengths shape (c .written i)) (lengths shape b)) → (k : ℕ) × First (allRows c) (record { input = i; buffers = b }) k × ¬ (k ≡ 0) × (run c i b ≡ outcome (refused k) b)
 
--- The rules of a game, as "The two files" and "Perfect recall" give them.
-pub record GameRules (g : Game) : Type 0 where
-  -- 3: neither N nor D0 is zero
-  pub some-node : 0 < g .nodes
-  pub some-weight : 0 < g .rootWeight
-  -- a set entry: "move count (7 bits, 1 to 64)"
-  pub set-moves : (h : ℕ) → h < g .sets → (1 ≤ g .setMoves h) × (g .setMoves h ≤ 64)
-  -- a node record: "kind (2 bits: 0 leaf, 1 decision, 2 chance)"
-  pub kinds : (n : ℕ) → n < g .nodes → g .kind n < 3
-  -- a decision's payload "is its set number": one of the H sets
-  pub decision-set : (n : ℕ) → n < g .nodes → g .kind n ≡ 1 → g .nodeSet n < g .sets
-  -- a chance node's "is its move count (7 bits, 1 to 64)"
-  pub chance-moves : (n : ℕ) → n < g .nodes → g .kind n ≡ 2 → (1 ≤ g .chanceMoves n) × (g .chanceMoves n ≤ 64)
-  -- "Node 0 is the root: parent 0, move 0, weight D0."
-  pub root : (g .parent 0 ≡ 0) × (g .move 0 ≡ 0) × (g .weight 0 ≡ g .rootWeight)
-  -- "Each other node's parent has a smaller number."
-  pub parents : (n : ℕ) → suc n < g .nodes → g .parent (suc n) < suc n
-  -- 8: its move is below the parent's move count, so the parent is no leaf, which has none
-  pub at-move : (n : ℕ) → suc n < g .nodes → g .move (suc n) < nodeMoves g (g .parent (suc n))
-  -- "Each move of each inner node leads to exactly one node."
-  pub moves : (n m : ℕ) → n < g .nodes → m < nodeMoves g n → ExactlyOne (IsChildAt g n m)
-  -- 10: no chance weight is zero
-  pub weights : (n : ℕ) → n < g .nodes → 0 < g .weight n
-  -- "A decision's child has its parent's weight"
-  pub decision-weight : (n : ℕ) → suc n < g .nodes → g .kind (g .parent (suc n)) ≡ 1 → g .weight (suc n) ≡ g .weight (g .parent (suc n))
-  -- "the weights of a chance node's children add up to its own"
-  pub chance-weight : (n : ℕ) → n < g .nodes → g .kind n ≡ 2 → childrenWeight g n ≡ g .weight n
-  -- "No path has more than 255 moves."
-  pub paths : (n k : ℕ) → n < g .nodes → PathTo g n k → k ≤ 255
-  -- 12: no set is without a node
-  pub set-node : (h : ℕ) → h < g .sets → (n : ℕ) × (n < g .nodes) × T (inSet g h n)
-  -- "any two nodes of one set have the same own sequence of that set's player"
-  pub recall : (h n m : ℕ) → h < g .sets → n < g .nodes → m < g .nodes → T (inSet g h n) → T (inSet g h m) → ownSequence g (g .setPlayer h) n ≡ ownSequence g (g .setPlayer h) m
+-- a good game file, and "set or node numbers that the game has", which has so many
+abbrev pub InGame : (count : Game → ℕ) → Asked → Type 0
+InGame count a = GameFile (a .game) × (a .number < count (gameOf (a .game)))
 
--- A game file that obeys every rule of document 01.
-pub record GameFile (bytes : List ℕ) : Type 0 where
-  -- "Header, 40 bits"
-  pub header : 5 ≤ length bytes
-  -- "edition (4 bits, value 1)"
-  pub edition : field bytes 0 4 ≡ 1
-  -- "5 + H + 8N bytes"
-  pub size : length bytes ≡ 5 + gameOf bytes .sets + 8 * gameOf bytes .nodes
-  -- "A decision's is its set number (12), then zeros. A chance node's is its move count (7 bits, 1 to 64), then zeros."
-  pub decision-zeros : (n : ℕ) → n < gameOf bytes .nodes → gameOf bytes .kind n ≡ 1 → field bytes (nodeAt bytes n + 44) 20 ≡ 0
-  pub chance-zeros : (n : ℕ) → n < gameOf bytes .nodes → gameOf bytes .kind n ≡ 2 → field bytes (nodeAt bytes n + 39) 25 ≡ 0
-  -- the game that it holds obeys its rules
-  pub rules : GameRules (gameOf bytes)
-
--- A plan file that obeys every rule, for an accepted game.
-pub record PlanFile (g : Game) (bytes : List ℕ) : Type 0 where
-  -- "4 bytes plus 12 bits for each move of each set, filled to a byte"
-  pub size : length bytes ≡ 4 + (12 * planMoves g + 7) / 8
-  -- "edition (4 bits, value 1)"
-  pub edition : field bytes 0 4 ≡ 1
-  -- 15: neither D1 nor D2 is zero
-  pub denominators : (p : Player) → 0 < planPairOf g bytes p .denominator
-  -- "four zero bits"
-  pub header-zeros : field bytes 28 4 ≡ 0
-  -- "filled to a byte with zero bits"
-  pub filling-zeros : (i : ℕ) → 32 + 12 * planMoves g ≤ i → i < 8 * length bytes → bit bytes i ≡ 0
-  -- "in each set, the move weights add up to the weight of the own sequence leading to the set"
-  pub fit : (p : Player) (h : ℕ) → h < g .sets → T (owns g p h) → countTo (g .setMoves h) (planPairOf g bytes p .moveWeight h) ≡ sequenceWeight (planPairOf g bytes p) (leading g h)
-
--- both files obey every rule
-abbrev pub GoodFiles : Files → Type 0
-GoodFiles f = GameFile (f .game) × PlanFile (gameOf (f .game)) (f .plan)
-
--- each buffer is at least as long as its result
-abbrev pub RoomFor : (results rooms : List ℕ) → Type 0
-RoomFor [] [] = Unit {0}
-RoomFor [] (r ∷ rooms) = Unit {0}
-RoomFor (n ∷ results) [] = ⊥
-RoomFor (n ∷ results) (r ∷ rooms) = (n ≤ r) × RoomFor results rooms
-
--- every entry of a list fits a field of that many bits
-abbrev pub FitField : (width : ℕ) → List ℕ → Type 0
-FitField width l = (i : ℕ) → getD l i 0 < 2 ^ width
-
--- "16 bits each, two's complement, so -32,768 to 32,767": every entry of a list of payoffs
-abbrev pub FitSigned : List ℤ → Type 0
-FitSigned l = (i : ℕ) → (negℤ (pos 32768) ≤ℤ getD l i (pos 0)) × (getD l i (pos 0) ≤ℤ pos 32767)
-
--- Fields that fit, for the game writer: one clause of 17 after the other.
-pub record FieldsFit (t : GameFields) : Type 0 where
-  -- "A number given to a writer does not fit its field (too large, or too small for a signed one)"
-  pub root-weight : t .rootWeight < 2 ^ 12
-  pub set-players : FitField 1 (t .setPlayers)
-  pub set-moves : FitField 7 (t .setMoves)
-  pub parents : FitField 12 (t .parents)
-  pub moves : FitField 6 (t .moves)
-  pub weights : FitField 12 (t .weights)
-  pub node-sets : FitField 12 (t .nodeSets)
-  pub chance-moves : FitField 7 (t .chanceMoves)
-  pub payoffs1 : FitSigned (t .payoffs1)
-  pub payoffs2 : FitSigned (t .payoffs2)
-  -- "or a table has more entries than its count can hold"
-  pub set-count : length (t .setPlayers) < 2 ^ 12
-  pub node-count : length (t .kinds) < 2 ^ 12
-  -- "a node kind given to a writer is not 0 to 2"
-  pub kinds : (n : ℕ) → n < length (t .kinds) → getD (t .kinds) n 0 < 3
-  -- "or a number that the node's kind lacks is given and not 0": only a decision has a set, a chance node moves, a leaf payoffs
-  pub only-decisions : (n : ℕ) → n < length (t .kinds) → ¬ (getD (t .kinds) n 0 ≡ 1) → getD (t .nodeSets) n 0 ≡ 0
-  pub only-chance : (n : ℕ) → n < length (t .kinds) → ¬ (getD (t .kinds) n 0 ≡ 2) → getD (t .chanceMoves) n 0 ≡ 0
-  pub only-leaves : (n : ℕ) → n < length (t .kinds) → ¬ (getD (t .kinds) n 0 ≡ 0) → (getD (t .payoffs1) n (pos 0) ≡ pos 0) × (getD (t .payoffs2) n (pos 0) ≡ pos 0)
-  -- "lists given side by side differ in length"
-  pub sets-beside : length (t .setMoves) ≡ length (t .setPlayers)
-  pub parents-beside : length (t .parents) ≡ length (t .kinds)
-  pub moves-beside : length (t .moves) ≡ length (t .kinds)
-  pub weights-beside : length (t .weights) ≡ length (t .kinds)
-  pub node-sets-beside : length (t .nodeSets) ≡ length (t .kinds)
-  pub chance-moves-beside : length (t .chanceMoves) ≡ length (t .kinds)
-  pub payoffs1-beside : length (t .payoffs1) ≡ length (t .kinds)
-  pub payoffs2-beside : length (t .payoffs2) ≡ length (t .kinds)
-
--- Fields that fit, for the plan writer: D1, D2 and every weight, 12 bits each.
-pub record PlanFieldsFit (t : PlanFields) : Type 0 where
-  pub first : t .d1 < 2 ^ 12
-  pub second : t .d2 < 2 ^ 12
-  pub weights : FitField 12 (t .weights)
-
--- 17, for a writer: what it is given does not fit
-abbrev pub misfit : {A : Type 0} → (Fit : A → Type 0) → Reasons A
-misfit Fit = (17, λ t. ¬ Fit t) ∷ []
-
--- What demand 1 says of an entry point: it takes what is good, and any other input gets the first refusal that applies.
-pub record Answers {A : Type 0} (checks : Checks A) (Good : A → Type 0) (reasons : Reasons A) : Type 0 where
-  pub taken : (a : A) → Good a ↔ (firstFailing checks a ≡ 0)
-  pub first : (a : A) → FirstThatApplies reasons a (firstFailing checks a)
-
--- a good input, with buffers long enough for its results
-abbrev pub WithRoom : {A : Type 0} → (Good : A → Type 0) → (lengths : A → List ℕ) → Lent A → Type 0
-WithRoom Good lengths c = Good (c .input) × RoomFor (lengths (c .input)) (c .rooms)
-
--- the same of an entry point with result buffers
-abbrev pub AnswersIn : {A : Type 0} → Checks (Lent A) → (Good : A → Type 0) → Reasons A → (lengths : A → List ℕ) → Type 0
-AnswersIn checks Good reasons lengths = Answers checks (WithRoom Good lengths) (orShort reasons lengths)
-
--- Demand 1, entry point by entry point.
-pub record Demand1 : Type 1 where
-  -- check of a game; set entry and own sequence of a set; node record; all fields of a game
-  pub game-check : Answers gameChecks GameFile gameReasons
-  pub set-number : Answers setNumberChecks (λ c. GameFile (c .file) × (c .number < gameOf (c .file) .sets)) (orMissing (λ g. g .sets))
-  pub node-number : Answers nodeNumberChecks (λ c. GameFile (c .file) × (c .number < gameOf (c .file) .nodes)) (orMissing (λ g. g .nodes))
-  pub game-fields : AnswersIn gameFieldsChecks GameFile gameReasons gameFieldLengths
-  -- check of a plan, and values with best values; all weights of a plan
-  pub plan-check : Answers pairChecks GoodFiles pairReasons
-  pub plan-fields : AnswersIn planFieldsChecks GoodFiles pairReasons weightLengths
-  -- payoff table, in columns and in rows; verdict; report; refusal line, which any number has
-  pub table : AnswersIn tableChecks GameFile gameReasons tableLengths
-  pub rows : AnswersIn rowsChecks GameFile gameReasons rowsLengths
-  pub judgement : AnswersIn verdictChecks GoodFiles pairReasons strategyLengths
-  pub report : AnswersIn reportChecks GoodFiles pairReasons reportLengths
-  pub refusal-line : AnswersIn refusalLineChecks (λ k. Unit {0}) [] lineLengths
-  -- the two writers
-  pub game-writer : AnswersIn gameWriterChecks FieldsFit (misfit FieldsFit) gameFileLengths
-  pub plan-writer : AnswersIn planWriterChecks PlanFieldsFit (misfit PlanFieldsFit) planFileLengths
-  -- "result buffers keep the contents they came with"; "On success the bytes past a result keep what they held."
-  pub kept : {A : Type 0} (k : ℕ) (result buffer : List A) → ¬ (k ≡ 0) → afterCall k result buffer ≡ buffer
-  pub written : {A : Type 0} (result buffer : List A) → (take (length result) (afterCall 0 result buffer) ≡ result) × (drop (length result) (afterCall 0 result buffer) ≡ drop (length result) buffer)
+pub record Demand1 : Type 0 where
+  pub check-game : Clause CheckGame.call GameFile
+  pub set-entry : Clause SetEntry.call (InGame (λ g. g .sets))
+  pub node-record : Clause NodeRecord.call (InGame (λ g. g .nodes))
+  pub own-sequence : Clause OwnSequence.call (InGame (λ g. g .sets))
+  pub game-fields : Clause GameFields.call GameFile
+  pub check-plan : Clause CheckPlan.call GoodFiles
+  pub plan-fields : Clause PlanFields.call GoodFiles
+  pub payoff-rows : Clause PayoffTable.rowsCall GameFile
+  pub payoff-table : Clause PayoffTable.columnsCall GameFile
+  pub values : Clause Values.call GoodFiles
+  pub verdict : Clause Verdict.call GoodFiles
+  pub report : Clause Report.call GoodFiles
+  pub refusal-line : Clause RefusalLine.call (λ number. Unit {0})
+  pub write-game : Clause WriteGame.call FieldsFit
+  pub write-plan : Clause WritePlan.call PlanFieldsFit
+  pub rewrite-game : Clause RewriteGame.call GameFile
+  pub rewrite-plan : Clause RewritePlan.call GoodFiles
+  pub reread-game : Clause RereadGame.call (λ t. FieldsFit t × GameFile (gameBytes t))
+  pub reread-plan : Clause RereadPlan.call (λ t. PlanFieldsFit (t .fields) × GoodFiles (RereadPlan.filesOf t))

@@ -1,19 +1,44 @@
--- Demand 3: what the verdict on an accepted game and a pair that fits must mean.
-use Prim.Native.Nat.{ℕ, _<_}
+-- Demand 3: what the verdict gives for an accepted game and a pair that fits, and what that means.
+use Prim.Native.Nat.{ℕ, zero, suc, pred, _≤_, _<_}
 use mathlib.Core.Path.{_≡_}
 use mathlib.Core.Logic.{_↔_}
-use mathlib.Core.List.{List, map}
+use mathlib.Core.List.{List, [], _∷_, map}
 use lib.Dec.{T}
+use lib.ListN.{length}
 use lib.IntN.{ℤ, pos}
 use lib.Signed.{_≤ℤ_, _<ℤ_}
-use Rattle.model.specs.Game.{Game, gameOf, Player, one, two, other, owns}
+use Rattle.algebra.specs.Bounded.{listTo}
+use Rattle.model.specs.Game.{Game, gameOf, Player, one, two, other, owns, playerOf, playerNumber}
 use Rattle.model.specs.Sequences.{Move, extended, leading}
-use Rattle.model.specs.GameChecks.{GameAccepted}
 use Rattle.model.specs.Plan.{PlanPair, planPairOf}
-use Rattle.model.specs.PlanChecks.{PlanFits}
+use Rattle.model.specs.PlanChecks.{files}
 use Rattle.model.specs.Earnings.{AtMost, Equal, minus, PureStrategy, MixedStrategy, listed, IsPure, IsMixed, setsOf, pureEarnings, mixedEarnings, planEarnings, valueBase}
 use Rattle.model.specs.BestResponse.{worth}
-use Rattle.model.specs.Verdict.{equilibrium, deviation, verdict}
+use Rattle.model.specs.Writing.{entry}
+use Rattle.model.specs.Rules.{GoodFiles}
+use Rattle.model.specs.Call.{given, Outcome}
+use Rattle.model.specs.Exported.{Exported}
+use Rattle.model.specs.calls.Verdict.{Stated, accepted, deviates, movesOf, verdict, Numbers, verdictNumbers}
+
+-- p's sets, rising, each with the buffer's entry at its place
+unfoldable pub strategyIn : Game → Player → (buffer : List ℕ) → List Move
+strategyIn g p buffer = listTo (length (setsOf g p)) (λ i. (entry (setsOf g p) i, entry buffer i))
+
+-- the pair is accepted
+abbrev pub IsAccepted : Stated → Type 0
+IsAccepted (accepted base) = Unit {0}
+IsAccepted (deviates player gain base sets) = ⊥
+
+-- the base that is stated
+abbrev pub statedBase : Stated → ℕ
+statedBase (accepted base) = base
+statedBase (deviates player gain base sets) = base
+
+-- There are strategies to speak of: "one move for each of his sets", and mixed ones "by whole-number weights of any size, not all 0".
+pub record StrategiesExist (g : Game) : Type 0 where
+  pub pure : (p : Player) → (σ : PureStrategy) × IsPure g p σ
+  pub mixed : (p : Player) (σ : PureStrategy) (weight : ℕ) → IsPure g p σ → 0 < weight → IsMixed g p ((weight, σ) ∷ [])
+  pub more : (p : Player) (σ : PureStrategy) (weight : ℕ) (μ : MixedStrategy) → IsPure g p σ → IsMixed g p μ → IsMixed g p ((weight, σ) ∷ μ)
 
 module _ (g : Game) (q : PlanPair) where
   -- "no pure strategy .. earns [p] more against the other's plan than his own plan does"
@@ -30,8 +55,8 @@ module _ (g : Game) (q : PlanPair) where
     pub best : (k : ℕ) → k < g .setMoves h → moveWorth p h k ≤ℤ moveWorth p h m
     pub lowest : (k : ℕ) → k < m → moveWorth p h k <ℤ moveWorth p h m
 
-  -- What is true of a deviation of p with this gain and these moves.
-  pub record Deviates (p : Player) (gain : ℤ) (moves : List Move) : Type 0 where
+  -- What is true of a deviation of p with this gain over this base and these moves.
+  pub record Deviates (p : Player) (gain : ℤ) (base : ℕ) (moves : List Move) : Type 0 where
     -- "Player 1 is shown if both can gain": player 2 only where no strategy of player 1 gains
     pub firstFirst : p ≡ two → NoProfitableDeviation one
     -- "The shown strategy takes in every set of that player, reached or not": a move for each, rising
@@ -41,7 +66,7 @@ module _ (g : Game) (q : PlanPair) where
     -- "the lowest-numbered worthiest move"
     pub worthiest : (h : ℕ) → h < g .sets → T (owns g p h) → LowestBest p h (listed moves h)
     -- "that strategy earns its player, against the other's plan, exactly the stated gain more than his own plan does"
-    pub exact : Equal (record { count = gain; base = valueBase g q }) (minus (pureEarnings g p (q (other p)) (listed moves)) (planEarnings g p (q (other p)) (q p)))
+    pub exact : Equal (record { count = gain; base = base }) (minus (pureEarnings g p (q (other p)) (listed moves)) (planEarnings g p (q (other p)) (q p)))
     -- "that gain is above zero"
     pub above : pos 0 <ℤ gain
     -- "every other strategy of that player, pure .. earns at most as much as the one shown"
@@ -56,15 +81,53 @@ module _ (g : Game) (q : PlanPair) where
     pub plans : (p : Player) → 0 < planEarnings g p (q (other p)) (q p) .base
     pub mixed : (p : Player) (μ : MixedStrategy) → IsMixed g p μ → 0 < mixedEarnings g p (q (other p)) μ .base
 
-  -- what the verdict on the pair means
-  pub record Judged : Type 0 where
-    -- "the pair is accepted exactly when no pure strategy .. earns either player more against the other's plan than his own plan does"
-    pub accepts : (verdict g q ≡ equilibrium) ↔ (NoProfitableDeviation one × NoProfitableDeviation two)
-    -- "whenever the pair is not accepted, the player and the strategy shown are those that document 01 names"
-    pub shows : (p : Player) (gain : ℤ) (moves : List Move) → verdict g q ≡ deviation p gain moves → Deviates p gain moves
-    -- "All are compared as exact fractions", none of them over 0
-    pub bases : BasesPositive
+  -- What is true of a stated deviation, with the strategy in the buffer.
+  pub record Shows (player : ℕ) (gain : ℤ) (base sets : ℕ) (p : Player) (buffer : List ℕ) : Type 0 where
+    -- its player is 1 or 2
+    pub named : player ≡ playerNumber p
+    -- it covers every set of his, and the buffer has all of it
+    pub counted : sets ≡ length (setsOf g p)
+    pub inBuffer : sets ≤ length buffer
+    -- with these moves it is what demand 3 says, field by field
+    pub deviates : Deviates p gain base (strategyIn g p buffer)
 
--- "For every accepted game and every plan pair that fits it"
-abbrev pub Demand3 : Type 0
-Demand3 = (game plan : List ℕ) → GameAccepted game → PlanFits game plan → Judged (gameOf game) (planPairOf (gameOf game) plan)
+  -- what is stated is true
+  abbrev pub Means : Stated → (buffer : List ℕ) → Type 0
+  Means (accepted base) buffer = Unit {0}
+  Means (deviates player gain base sets) buffer = Shows player gain base sets (playerOf (pred player)) buffer
+
+  -- what an answer and the buffer beside it mean
+  pub record Judged (answer : Stated) (buffer : List ℕ) : Type 0 where
+    -- "the pair is accepted exactly when no pure strategy .. earns either player more against the other's plan than his own plan does"
+    pub acceptedExactly : IsAccepted answer ↔ (NoProfitableDeviation one × NoProfitableDeviation two)
+    -- "whenever the pair is not accepted, the player and the strategy shown are those that document 01 names"
+    pub shown : Means answer buffer
+    -- "All are compared as exact fractions", none of them over 0: the stated base, and every other
+    pub positive : 0 < statedBase answer
+    pub bases : BasesPositive
+    pub strategies : StrategiesExist g
+
+-- Demand 3 for an outcome: "For every accepted game and every plan pair that fits it, with result buffers long enough for the verdict"
+-- an answer is given, and it and the buffer mean what is demanded.
+abbrev pub Demand3Met : (game plan moves : List ℕ) → Outcome (ℕ ∷ []) Stated → Type 0
+Demand3Met game plan moves o =
+    GoodFiles (files game plan)
+    → length (movesOf (files game plan)) ≤ length moves
+    → (answer : Stated) × (o .answer ≡ given answer) × Judged (gameOf game) (planPairOf (gameOf game) plan) answer (o .buffers .0)
+
+-- what a verdict in numbers states: player 0 that the pair is accepted
+abbrev pub statedBy : (player : ℕ) → (gain : ℤ) → (base count : ℕ) → Stated
+statedBy zero gain base count = accepted base
+statedBy (suc n) gain base count = deviates (suc n) gain base count
+
+-- demand 3 for an outcome in numbers
+abbrev pub Demand3MetIn : (game plan moves : List ℕ) → Exported (ℕ ∷ []) Numbers → Type 0
+Demand3MetIn game plan moves x =
+    let n = x .numbers in
+    GoodFiles (files game plan)
+    → length (movesOf (files game plan)) ≤ length moves
+    → (x .refusal ≡ 0) × Judged (gameOf game) (planPairOf (gameOf game) plan) (statedBy (n .player) (n .gain) (n .base) (n .count)) (x .buffers .0)
+
+pub record Demand3 : Type 0 where
+  pub verdict : (game plan moves : List ℕ) → Demand3Met game plan moves (verdict game plan moves)
+  pub numbers : (game plan : List ℕ) (before : Numbers) (moves : List ℕ) → Demand3MetIn game plan moves (verdictNumbers game plan before moves)

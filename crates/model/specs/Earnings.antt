@@ -17,6 +17,11 @@ pub record Fraction : Type 0 where
   pub count : ℤ
   pub base : ℕ
 
+-- as in "36 over 9"
+infix 6 _over_
+abbrev pub _over_ : ℤ → ℕ → Fraction
+_over_ count base = record { count = count; base = base }
+
 -- "All are compared as exact fractions": by cross-multiplication
 abbrev pub AtMost : Fraction → Fraction → Type 0
 AtMost a b = (pos (b .base) *ℤ a .count) ≤ℤ (pos (a .base) *ℤ b .count)

@@ -1,15 +1,13 @@
 -- Document 01, "Why a file is sent back": checks 1 to 13 of a game file. Each test says what must hold.
 use Prim.Native.Nat.{ℕ, zero, suc, _+_, _*_}
-use mathlib.Core.Path.{_≡_}
 use mathlib.Core.Bool.{Bool, _&&_, not, cond}
-use mathlib.Core.List.{List, [], _∷_, _++_}
+use mathlib.Core.List.{List}
 use lib.ListN.{length}
 use lib.Dec.{eqb, ltb, leb}
 use Rattle.algebra.specs.Bounded.{countTo, allTo, anyTo, implies}
 use Rattle.model.specs.Bits.{field}
 use Rattle.model.specs.Game.{Game, gameOf, nodeAt, isLeaf, isDecision, isChance, inSet, nodeMoves}
 use Rattle.model.specs.Sequences.{ownSequence, same}
-use Rattle.model.specs.Refusals.{Checks, firstFailing}
 
 -- "1 to 64"
 unfoldable pub isMoveCount : ℕ → Bool
@@ -132,42 +130,7 @@ module _ (g : Game) where
   unfoldable pub perfectRecall : Bool
   perfectRecall = allTo (g .sets) (λ h. allTo (g .nodes) (λ n. allTo (g .nodes) (recallAt h n)))
 
--- checks 1 to 4: the header and the length
-unfoldable pub headerChecks : Checks (List ℕ)
-headerChecks =
-    (1, hasHeader)
-    ∷ (2, hasEdition)
-    ∷ (3, λ b. countsPositive (gameOf b))
-    ∷ (4, hasLength)
-    ∷ []
-
--- checks 5 to 13: the sets and the tree
-unfoldable pub treeChecks : Checks (List ℕ)
-treeChecks =
-    (5, λ b. setMovesInRange (gameOf b))
-    ∷ (6, recordsWellFormed)
-    ∷ (7, λ b. payloadsInRange (gameOf b))
-    ∷ (8, λ b. nodesAttached (gameOf b))
-    ∷ (9, λ b. movesLeadOn (gameOf b))
-    ∷ (10, λ b. weightsObeyRules (gameOf b))
-    ∷ (11, λ b. pathsInLimit (gameOf b))
-    ∷ (12, λ b. setsNonEmpty (gameOf b))
-    ∷ (13, λ b. perfectRecall (gameOf b))
-    ∷ []
-
--- checks 1 to 13
-unfoldable pub gameChecks : Checks (List ℕ)
-gameChecks = headerChecks ++ treeChecks
-
--- the refusal of a game file; 0 where "none of its checks sends it back"
-unfoldable pub gameRefusal : List ℕ → ℕ
-gameRefusal bytes = firstFailing gameChecks bytes
-
--- "Accepted is said of a file": the game file is accepted by its checks
-abbrev pub GameAccepted : List ℕ → Type 0
-GameAccepted bytes = gameRefusal bytes ≡ 0
-
 -- To unfold this is to unfold all of this file: for closed computation.
 unfoldable pub opened : Unit {0}
-unfolding isMoveCount pathLimit hasHeader hasEdition gameLength hasLength paddingZero recordsWellFormed countsPositive setMovesInRange payloadInRange payloadsInRange attached nodesAttached isChild shareMove movesLeadOn childrenWeight weightInherited weightShared weightsObeyRules depthIn depth pathsInLimit setsNonEmpty recallAt perfectRecall headerChecks treeChecks gameChecks gameRefusal
+unfolding isMoveCount pathLimit hasHeader hasEdition gameLength hasLength paddingZero recordsWellFormed countsPositive setMovesInRange payloadInRange payloadsInRange attached nodesAttached isChild shareMove movesLeadOn childrenWeight weightInherited weightShared weightsObeyRules depthIn depth pathsInLimit setsNonEmpty recallAt perfectRecall
 opened = tt

@@ -1,10 +1,12 @@
 pub mod Bits
 pub mod Game
 pub mod Sequences
-pub mod Refusals
 pub mod GameChecks
 pub mod Plan
 pub mod PlanChecks
+pub mod Reasons
+pub mod Rows
+pub mod Checks
 pub mod Table
 pub mod Earnings
 pub mod BestResponse
@@ -12,8 +14,11 @@ pub mod Verdict
 pub mod Budget
 pub mod Writing
 pub mod Report
-pub mod Calls
-pub mod Reasons
+pub mod Rules
+pub mod Call
+pub mod Exported
+pub mod calls
+pub mod Prices
 pub mod Demand1
 pub mod Demand2
 pub mod Demand3

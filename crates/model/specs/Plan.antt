@@ -1,9 +1,10 @@
 -- Document 01, "The two files" and "Sequence form": realization plans, one for each player.
 -- Document 01's "plan" of a player is his realization plan; its plan file holds a pair of them.
-use Prim.Native.Nat.{ℕ, _+_, _*_}
+use Prim.Native.Nat.{ℕ, _+_, _*_, _<_}
+use mathlib.Core.Path.{_≡_}
 use mathlib.Core.Bool.{Bool, _&&_}
 use mathlib.Core.List.{List}
-use lib.Dec.{eqb}
+use lib.Dec.{T, eqb}
 use Rattle.algebra.specs.Bounded.{countTo, allTo, implies}
 use Rattle.model.specs.Bits.{field, fields}
 use Rattle.model.specs.Game.{Game, Player, one, two, owns, movesBefore}
@@ -38,6 +39,10 @@ module _ (g : Game) where
   -- both plans of a pair fit
   unfoldable pub pairFits : PlanPair → Bool
   pairFits q = fits one (q one) && fits two (q two)
+
+-- "A plan fits when, in each set, the move weights add up to the weight of the own sequence leading to the set": p's plan, as a proposition
+abbrev pub Fits : Game → Player → RealizationPlan → Type 0
+Fits g p x = (h : ℕ) → h < g .sets → T (owns g p h) → countTo (g .setMoves h) (x .moveWeight h) ≡ sequenceWeight x (leading g h)
 
 -- Plan file. Header, 32 bits: edition (4), D1 (12), D2 (12), four zero bits. Then 12 bits for each move of each set.
 -- where a player's denominator begins

@@ -11,7 +11,7 @@ use lib.Signed.{nonNeg}
 use Rattle.model.specs.Game.{Game, gameOf, Player, one, two, other, playerNumber}
 use Rattle.model.specs.Sequences.{Move}
 use Rattle.model.specs.Plan.{PlanPair, planPairOf}
-use Rattle.model.specs.PlanChecks.{pairRefusal}
+use Rattle.model.specs.Checks.{pairRefusal}
 use Rattle.model.specs.Earnings.{Fraction, value, valueBase}
 use Rattle.model.specs.BestResponse.{bestValue}
 use Rattle.model.specs.Verdict.{Verdict, equilibrium, deviation, verdict}
@@ -92,8 +92,17 @@ refusalLine k = line (ascii "refusal " ++ decimal k)
 unfoldable pub reportOf : (game plan : List ℕ) → List ℕ
 reportOf game plan = report (gameOf game) (planPairOf (gameOf game) plan)
 
--- what the program prints for the bytes of two files. It takes an absent or unreadable file as one of no bytes:
--- that is `desk`'s `load`, and it is tested, since no contract can speak of the file system.
+-- The length of the longest game file that can be accepted: "5 + H + 8N bytes", and N and H have 12 bits each.
+unfoldable pub longestGame : ℕ
+longestGame = 5 + 4095 + 8 * 4095
+
+-- Of the longest plan file: "4 bytes plus 12 bits for each move of each set, filled to a byte". The sets of an accepted
+-- game have fewer moves than it has nodes, so 4,094 at most.
+unfoldable pub longestPlan : ℕ
+longestPlan = 4 + (12 * 4094 + 7) / 8
+
+-- what the program prints for the bytes of two files, "an absent or unreadable file counting as empty": `desk`'s
+-- `after_read` states that of a read that fails; the rest is tested, since no contract can speak of the file system.
 unfoldable pub printed : (game plan : List ℕ) → List ℕ
 printed game plan =
     let k = pairRefusal game plan in
@@ -103,5 +112,5 @@ printed game plan =
 
 -- To unfold this is to unfold all of this file: for closed computation.
 unfoldable pub opened : Unit {0}
-unfolding ascii digitsIn decimal signedDecimal thousandths lastThree showsMinus amount line moveLine valueLine bestLine gainAmount verdictLines report refusalLine reportOf printed flatMap
+unfolding ascii digitsIn decimal signedDecimal thousandths lastThree showsMinus amount line moveLine valueLine bestLine gainAmount verdictLines report refusalLine reportOf longestGame longestPlan printed flatMap
 opened = tt

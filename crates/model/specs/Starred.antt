@@ -5,11 +5,10 @@ use mathlib.Core.List.{List, [], _∷_, map}
 use lib.ListN.{length, take, drop}
 use lib.IntN.{ℤ, pos}
 use Rattle.model.specs.Game.{gameOf, one, two}
-use Rattle.model.specs.GameChecks.{gameRefusal}
+use Rattle.model.specs.Checks.{gameRefusal, pairRefusal}
 use Rattle.model.specs.Plan.{planPairOf}
-use Rattle.model.specs.PlanChecks.{pairRefusal}
 use Rattle.model.specs.Table.{Row, payoffTable}
-use Rattle.model.specs.Earnings.{Fraction, value}
+use Rattle.model.specs.Earnings.{Fraction, _over_, value}
 use Rattle.model.specs.BestResponse.{bestValue}
 use Rattle.model.specs.Verdict.{Verdict, equilibrium, deviation, verdict}
 use Rattle.model.specs.Writing.{gameBytes, planBytes}
@@ -142,11 +141,6 @@ outcome game plan =
       best2 = bestValue g two (q one);
       answer = verdict g q;
     }
-
--- "36 over 9"
-infix 6 _over_
-abbrev pub _over_ : ℤ → ℕ → Fraction
-_over_ count base = record { count = count; base = base }
 
 -- a row of the payoff table
 abbrev pub row : (s t : ℕ) → (a b : ℤ) → Row

@@ -1,6 +1,6 @@
 -- Document 01, "Sequence form": gains and the verdict on a plan pair.
 use mathlib.Core.Bool.{cond}
-use mathlib.Core.List.{List}
+use mathlib.Core.List.{List, []}
 use lib.IntN.{ℤ, pos, _-ℤ_, _*ℤ_}
 use lib.Signed.{ltZ}
 use Rattle.model.specs.Game.{Game, Player, one, two, other}
@@ -31,7 +31,12 @@ module _ (g : Game) (q : PlanPair) where
   unfoldable pub verdict : Verdict
   verdict = cond (ltZ (pos 0) (gain one)) (deviates one) (cond (ltZ (pos 0) (gain two)) (deviates two) equilibrium)
 
+-- the strategy that a verdict shows: none where the pair is an equilibrium
+unfoldable pub shownMoves : Verdict → List Move
+shownMoves equilibrium = []
+shownMoves (deviation p gain moves) = moves
+
 -- To unfold this is to unfold all of this file: for closed computation.
 unfoldable pub opened : Unit {0}
-unfolding scaledBest gain deviates verdict
+unfolding scaledBest gain deviates verdict shownMoves
 opened = tt

@@ -39,6 +39,15 @@ gameFields rootWeight setPlayers setMoves kinds parents moves weights nodeSets c
   payoffs2 = payoffs2;
 }
 
+-- What the plan writer is given: D1, D2 and all weights in file order.
+pub record PlanFields : Type 0 where
+  pub d1 : ℕ
+  pub d2 : ℕ
+  pub weights : List ℕ
+
+abbrev pub planFields : (d1 d2 : ℕ) → (weights : List ℕ) → PlanFields
+planFields d1 d2 weights = record { d1 = d1; d2 = d2; weights = weights }
+
 -- The fields of a game by number; a number that a node's kind lacks is 0.
 module _ (g : Game) where
   -- the player of set h, as its bit

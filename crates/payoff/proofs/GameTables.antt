@@ -17,7 +17,7 @@ use Rattle.algebra.proofs.Entries.{Every, every-where, every-join, Among, among
 use Rattle.model.specs.Game.{Game, Player, one, two, isLeaf}
 use Rattle.model.specs.Sequences.{sequenceCount}
 use Rattle.model.specs.Table.{ownNumber, standsAt, pairSum, rowAt, rowsAt, payoffTable, weightedPayoff}
-use Rattle.model.specs.Demand1.{GameRules}
+use Rattle.model.specs.Rules.{GameRules}
 use Rattle.model.proofs.Budget.{GameLimits, table-fits}
 use Rattle.model.proofs.Numbers.{own-number-below, sequences-few}
 use Rattle.gather.specs.Leaves.{leafAt, leavesBelow, leavesOf, leafOf, Column, Gathered}

@@ -6,7 +6,7 @@ use lib.IntN.{ℤ}
 use Rattle.model.specs.Game.{Game, one, two}
 use Rattle.model.specs.Sequences.{sequenceCount}
 use Rattle.model.specs.Table.{payoffTable}
-use Rattle.model.specs.Demand1.{GameRules}
+use Rattle.model.specs.Rules.{GameRules}
 use Rattle.model.proofs.Budget.{GameLimits}
 use Rattle.gather.specs.Leaves.{Gathered}
 use Rattle.payoff.specs.Table.{tableBy, TableIn, Tabular}

@@ -6,7 +6,7 @@ ghost use Rattle.algebra.specs.Arrays.{Holds};
 ghost use Rattle.model.specs.Game.{gameOf, one, two};
 ghost use Rattle.model.specs.Sequences.{sequenceCount};
 ghost use Rattle.model.specs.Table.{ownNumber, payoffTable};
-ghost use Rattle.model.specs.Demand1.{GameRules};
+ghost use Rattle.model.specs.Rules.{GameRules};
 ghost use Rattle.game.specs.Records.{headerOf};
 ghost use Rattle.payoff.specs.Table.{TableIn};
 use super::rows;

@@ -13,18 +13,18 @@ use Rattle.model.specs.Game.{Game, Player, one, two, gameOf, playerOf, owns, mo
 use Rattle.model.specs.Sequences.{leading, moveNumber, sequenceNumber, leadingNumber, sequenceCount}
 use Rattle.model.specs.Plan.{balanced, fits, pairFits}
 use Rattle.model.specs.Writing.{entry}
-use Rattle.model.specs.Demand1.{GameRules}
+use Rattle.model.specs.Rules.{GameRules}
 use Rattle.model.proofs.Numbers.{moves-block, number-below}
 use Rattle.model.proofs.Tree.{same-player, player-refl, owner, leading-sequence}
-use Rattle.game.specs.declared.Checked.{Checked}
-use Rattle.game.specs.declared.Checked.the-variants.{Fine, Broken}
+use Rattle.checks.specs.declared.Checked.{Checked}
+use Rattle.checks.specs.declared.Checked.the-variants.{Fine, Broken}
 use Rattle.game.specs.declared.SetEntry.{SetEntry}
-use Rattle.game.specs.Answers.{checkedOf}
+use Rattle.checks.specs.Checked.{checkedOf}
 use Rattle.game.specs.Records.{SetRead}
 use Rattle.game.specs.Sets.{firstSequence}
 use Rattle.game.proofs.Own.{bits-same}
 use Rattle.game.proofs.Leading.{read-player}
-use Rattle.game.proofs.Answers.{first-broken, then-second}
+use Rattle.checks.proofs.Chains.{first-broken, then-second}
 use Rattle.plan.specs.Weights.{planByNumber, pairByNumber}
 use Rattle.plan.proofs.ByNumber.{weight-at}
 
@@ -75,11 +75,11 @@ module _ {bytes : List ℕ} {h : ℕ} {e : SetEntry} (S : SetRead bytes h e) (b 
 -- Check 16 of both players' weights.
 module _ (g : Game) (x y : List ℕ) where
   -- its answer, where player 1's plan does not fit
-  pub pair-broken : {r : Checked} → r ≡ checkedOf (fits g one (planByNumber g one (entry x))) → r ≡ Broken → Broken ≡ checkedOf (pairFits g (pairByNumber g (entry x) (entry y)))
+  pub pair-broken : {r : Checked} → r ≡ checkedOf 16 (fits g one (planByNumber g one (entry x))) → {n : ℕ} → r ≡ Broken n → r ≡ checkedOf 16 (pairFits g (pairByNumber g (entry x) (entry y)))
   unfolding pairFits pairByNumber
-  pair-broken e f = first-broken (fits g one (planByNumber g one (entry x))) (fits g two (planByNumber g two (entry y))) e f
+  pair-broken e f = first-broken 16 (fits g one (planByNumber g one (entry x))) (fits g two (planByNumber g two (entry y))) e f
 
   -- and where it does: player 2's answer
-  pub pair-second : {r s : Checked} → r ≡ checkedOf (fits g one (planByNumber g one (entry x))) → r ≡ Fine → s ≡ checkedOf (fits g two (planByNumber g two (entry y))) → s ≡ checkedOf (pairFits g (pairByNumber g (entry x) (entry y)))
+  pub pair-second : {r s : Checked} → r ≡ checkedOf 16 (fits g one (planByNumber g one (entry x))) → r ≡ Fine → s ≡ checkedOf 16 (fits g two (planByNumber g two (entry y))) → s ≡ checkedOf 16 (pairFits g (pairByNumber g (entry x) (entry y)))
   unfolding pairFits pairByNumber
-  pair-second e f second = then-second (fits g one (planByNumber g one (entry x))) (fits g two (planByNumber g two (entry y))) e f second
+  pair-second e f second = then-second 16 (fits g one (planByNumber g one (entry x))) (fits g two (planByNumber g two (entry y))) e f second

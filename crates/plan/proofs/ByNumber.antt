@@ -14,15 +14,15 @@ use Rattle.algebra.proofs.Fillings.{filled}
 use Rattle.model.specs.Game.{Game, Player, one, two, owns, movesBefore}
 use Rattle.model.specs.Sequences.{Move, Sequence, byLastMove, leading, moveNumber, sequenceNumber, sequenceCount}
 use Rattle.model.specs.Plan.{sequenceWeight, balanced, fits, pairFits, weightsBefore, weightPlace, weightBit, planPairOf}
-use Rattle.model.specs.Demand1.{GameRules}
+use Rattle.model.specs.Rules.{GameRules}
 use Rattle.model.specs.Writing.{entry}
 use Rattle.model.specs.Budget.{weightLimit}
 use Rattle.model.proofs.Bits.{field-fits}
 use Rattle.model.proofs.Budget.{plan-limits}
 use Rattle.model.proofs.Numbers.{moves-block, number-below}
 use Rattle.model.proofs.Tree.{leading-sequence}
-use Rattle.game.specs.declared.Checked.{Checked}
-use Rattle.game.specs.Answers.{checkedOf}
+use Rattle.checks.specs.declared.Checked.{Checked}
+use Rattle.checks.specs.Checked.{checkedOf}
 use Rattle.plan.specs.Weights.{weightsFrom, weightByNumber, planByNumber, pairByNumber, Weights}
 
 -- the weight of a sequence, in a plan whose weights go by number, is that of its number
@@ -94,5 +94,5 @@ module _ (g : Game) (rules : GameRules g) (plan : List ℕ) {x y : List ℕ} (he
   same-pair-fits = rw (plan-fits one held1, plan-fits two held2)
 
   -- its answer is the file's
-  pub pair-fits : {r : Checked} → r ≡ checkedOf (pairFits g (pairByNumber g (entry x) (entry y))) → r ≡ checkedOf (pairFits g (planPairOf g plan))
-  pair-fits e = e ∙ ap checkedOf same-pair-fits
+  pub pair-fits : {r : Checked} → r ≡ checkedOf 16 (pairFits g (pairByNumber g (entry x) (entry y))) → r ≡ checkedOf 16 (pairFits g (planPairOf g plan))
+  pair-fits e = e ∙ ap (checkedOf 16) same-pair-fits

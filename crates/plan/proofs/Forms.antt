@@ -1,33 +1,30 @@
 -- Checks 14 and 15 by the number of moves and by a header that was read.
 use Prim.Native.Nat.{ℕ, _+_, _*_, _-_, _/_}
-use mathlib.Core.Path.{_≡_, refl, _∙_}
+use mathlib.Core.Path.{_≡_, refl, ap, _∙_}
 use mathlib.Core.Bool.{Bool, true, false, _&&_}
 use mathlib.Core.List.{List}
 use native.Mathlib.Omega.{arith}
 use lib.ListN.{length}
 use lib.Dec.{T, eqb}
-use borrow.Author.Tests.{eq-eqb, ne-eqb}
+use borrow.Author.Tests.{ne-eqb}
 use Rattle.model.specs.Bits.{field}
 use Rattle.model.specs.Game.{Game, one, two}
 use Rattle.model.specs.Plan.{planMoves, weightBit, planPairOf}
 use Rattle.model.specs.PlanChecks.{planLength, planHasLength, filling, planWellFormed}
 use Rattle.model.proofs.PlanRules.{plan-length-iff}
-use Rattle.game.specs.declared.Checked.the-variants.{Fine, Broken}
-use Rattle.game.specs.Answers.{checkedOf}
-use Rattle.game.proofs.Answers.{is-fine, is-broken}
+use Rattle.checks.specs.declared.Checked.the-variants.{Fine, Broken}
+use Rattle.checks.specs.Checked.{checkedOf}
+use Rattle.checks.proofs.Chains.{is-fine, is-broken}
 use Rattle.plan.specs.declared.PlanHeader.{PlanHeader}
 use Rattle.plan.specs.Header.{denominatorsOf, planHeaderOf, headerRight}
 
 module _ (g : Game) (plan : List ℕ) (moves : ℕ) (e : moves ≡ planMoves g) where
-  -- the length is right
-  pub length-fine : length plan ≡ (32 + 12 * moves + 7) / 8 → Fine ≡ checkedOf (planHasLength g plan)
+  -- the bytes that the header and the weights take
+  pub length-right : eqb (length plan) ((32 + 12 * moves + 7) / 8) ≡ planHasLength g plan
   unfolding planHasLength planLength
-  length-fine l = is-fine _ (eq-eqb (length plan) (4 + (12 * planMoves g + 7) / 8) (omega arith))
-
-  -- and is not
-  pub length-broken : ¬ (length plan ≡ (32 + 12 * moves + 7) / 8) → Broken ≡ checkedOf (planHasLength g plan)
-  unfolding planHasLength planLength
-  length-broken l = is-broken _ (ne-eqb (length plan) (4 + (12 * planMoves g + 7) / 8) (λ z. l (omega arith)))
+  length-right =
+      let same : (32 + 12 * moves + 7) / 8 ≡ 4 + (12 * planMoves g + 7) / 8 = omega arith in
+      ap (λ (n : ℕ). eqb (length plan) n) same
 
   -- the length of a file that passes check 14
   pub length-is : T (planHasLength g plan) → length plan ≡ 4 + (12 * moves + 7) / 8
@@ -40,20 +37,20 @@ module _ (g : Game) (plan : List ℕ) (moves : ℕ) (e : moves ≡ planMoves g) 
 
   module _ (h : PlanHeader) (q : h ≡ planHeaderOf plan) where
     -- both are right
-    pub formed-fine : headerRight h ≡ true → field plan (32 + 12 * moves) (8 * length plan - (32 + 12 * moves)) ≡ 0 → Fine ≡ checkedOf (planWellFormed g plan)
-    formed-fine a b = is-fine _ (well-formed-is h q ∙ rw (a, b))
+    pub formed-fine : headerRight h ≡ true → field plan (32 + 12 * moves) (8 * length plan - (32 + 12 * moves)) ≡ 0 → Fine ≡ checkedOf 15 (planWellFormed g plan)
+    formed-fine a b = is-fine 15 (well-formed-is h q ∙ rw (a, b))
 
     -- the filling is not
-    pub formed-filled : ¬ (field plan (32 + 12 * moves) (8 * length plan - (32 + 12 * moves)) ≡ 0) → Broken ≡ checkedOf (planWellFormed g plan)
-    formed-filled b = is-broken _ (well-formed-is h q ∙ last-fails (headerRight h) _ (ne-eqb _ _ b))
+    pub formed-filled : ¬ (field plan (32 + 12 * moves) (8 * length plan - (32 + 12 * moves)) ≡ 0) → Broken 15 ≡ checkedOf 15 (planWellFormed g plan)
+    formed-filled b = is-broken 15 (well-formed-is h q ∙ last-fails (headerRight h) _ (ne-eqb _ _ b))
       where
         last-fails : (a b : Bool) → b ≡ false → (a && b) ≡ false
         last-fails true b z = z
         last-fails false b z = refl
 
     -- the header is not
-    pub formed-wrong : headerRight h ≡ false → Broken ≡ checkedOf (planWellFormed g plan)
-    formed-wrong a = is-broken _ (well-formed-is h q ∙ rw a)
+    pub formed-wrong : headerRight h ≡ false → Broken 15 ≡ checkedOf 15 (planWellFormed g plan)
+    formed-wrong a = is-broken 15 (well-formed-is h q ∙ rw a)
 
 -- the denominators of a header that was read are the plans'
 pub header-first : (g : Game) (plan : List ℕ) (h : PlanHeader) → h ≡ planHeaderOf plan → h .denominators .first ≡ planPairOf g plan one .denominator

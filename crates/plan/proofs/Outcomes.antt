@@ -10,7 +10,7 @@ use Rattle.algebra.specs.Arrays.{over}
 use Rattle.model.specs.Game.{Game, Player, one, two, gameOf, movesBefore}
 use Rattle.model.specs.Sequences.{sequenceCount}
 use Rattle.model.specs.Plan.{weightsBefore, planMoves}
-use Rattle.model.specs.Demand1.{GameRules}
+use Rattle.model.specs.Rules.{GameRules}
 use Rattle.model.proofs.Budget.{game-limits}
 use Rattle.model.proofs.Numbers.{plan-moves-few, sequences-few}
 use Rattle.game.specs.declared.SequenceCounts.{SequenceCounts}

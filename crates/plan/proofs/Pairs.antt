@@ -16,15 +16,17 @@ use Rattle.algebra.proofs.Fillings.{filled}
 use Rattle.model.specs.Bits.{field, fields}
 use Rattle.model.specs.Game.{Game, Player, gameOf, one, two, movesBefore}
 use Rattle.model.specs.Sequences.{sequenceCount}
-use Rattle.model.specs.Refusals.{firstFailing, along, numbers}
-use Rattle.model.specs.GameChecks.{gameChecks, headerChecks, treeChecks, gameRefusal}
+use Rattle.model.specs.Checks.{headerRows, recordRows, treeRows, gameRows, planRows, pairRows, gameRefusal, pairRefusal}
 use Rattle.model.specs.Plan.{planMoves, planWeights, weightBit, weightsBefore}
-use Rattle.model.specs.PlanChecks.{Files, planChecks, pairChecks, pairRefusal}
-use Rattle.model.proofs.Refusals.{first-append, first-along, first-below}
+use Rattle.model.specs.PlanChecks.{Files, files}
+use Rattle.model.specs.Rows.{of, refusal}
+use Rattle.model.proofs.Rows.{named-of}
+use Rattle.checks.proofs.Chains.{after, refusal-of}
+use Rattle.model.proofs.Rows.{refusal-below}
 use Rattle.model.specs.Writing.{entry}
 use Rattle.game.specs.declared.Header.{Header}
 use Rattle.game.specs.declared.SequenceCounts.{SequenceCounts}
-use Rattle.model.proofs.Demand1.{game-rules}
+use Rattle.model.proofs.Checks.{game-named, game-rules}
 use Rattle.model.proofs.Budget.{game-limits}
 use Rattle.model.proofs.Numbers.{sequences-few}
 use Rattle.game.specs.Records.{headerOf}
@@ -44,8 +46,10 @@ use Rattle.plan.proofs.Outcomes.{some-sequence, room}
 module _ (game plan : List ℕ) where
   -- the game's refusal, and where it has none, the plan's
   joined : pairRefusal game plan ≡ cond (eqb (gameRefusal game) 0) (planRefusal game plan) (gameRefusal game)
-  unfolding pairRefusal pairChecks firstFailing numbers along gameChecks headerChecks treeChecks gameRefusal
-  joined = first-append (along (λ (f : Files). f .game) gameChecks) planChecks (record { game = game; plan = plan }) tt ∙ rw (first-along (λ (f : Files). f .game) gameChecks (record { game = game; plan = plan }))
+  unfolding pairRefusal pairRows gameRefusal
+  joined =
+      let part : Files → List ℕ = λ f. f .game in
+      after (of part gameRows) planRows (files game plan) (named-of part gameRows game-named) (refusal gameRows game) (refusal-of part gameRows (files game plan))
 
   -- a game that is refused
   pub game-refused : {r : ℕ} → Sent game r → pairRefusal game plan ≡ r
@@ -53,9 +57,9 @@ module _ (game plan : List ℕ) where
 
   -- its number is none of a plan's, so the arrays are left
   pub game-early : {r : ℕ} → Sent game r → (eqb r 0 || eqb r 16) ≡ false
-  unfolding numbers gameChecks headerChecks treeChecks gameRefusal
+  unfolding gameRefusal gameRows headerRows recordRows treeRows
   game-early {r} s =
-      let low : r < 14 = omega (arith, s .number, first-below gameChecks game 14 (omega arith) tt) in
+      let low : r < 14 = omega (arith, s .number, refusal-below gameRows game 14 (omega arith) tt) in
       rw (ne-eqb r 0 (s .some), ne-eqb r 16 (λ e. omega arith))
 
   -- one that is accepted

@@ -12,14 +12,14 @@ use Rattle.algebra.proofs.Fillings.{over-at, over-past}
 use Rattle.model.specs.Game.{Game, Player, one, two, other, gameOf}
 use Rattle.model.specs.Sequences.{ownSequence, sequenceCount}
 use Rattle.model.specs.Plan.{weightAt, pairFits, planPairOf}
-use Rattle.model.specs.PlanChecks.{pairRefusal}
+use Rattle.model.specs.Checks.{pairRefusal}
 use Rattle.model.specs.Earnings.{valueCount}
 use Rattle.model.specs.BestResponse.{bestCount, bestMove}
-use Rattle.model.specs.Demand1.{GameRules}
+use Rattle.model.specs.Rules.{GameRules}
 use Rattle.model.specs.Writing.{entry}
 use Rattle.model.specs.Budget.{weightLimit}
 use Rattle.model.proofs.SamePlans.{SameWeights, best-count-agrees, best-move-agrees, value-count-agrees}
-use Rattle.model.proofs.Demand1.{game-rules, plan-rules, pair-parts}
+use Rattle.model.proofs.Checks.{game-rules, plan-rules, pair-parts}
 use Rattle.model.proofs.Numbers.{number-below}
 use Rattle.model.proofs.PlanRules.{pair-fits-iff}
 use Rattle.model.proofs.Tree.{own-sequence}

@@ -7,8 +7,9 @@ use Rattle.algebra.specs.Bounded.{listTo}
 use Rattle.algebra.specs.Arrays.{over}
 use Rattle.model.specs.Game.{Player, gameOf}
 use Rattle.model.specs.Sequences.{sequenceCount}
-use Rattle.model.specs.Refusals.{firstFailing}
-use Rattle.model.specs.PlanChecks.{planChecks}
+use Rattle.model.specs.PlanChecks.{files}
+use Rattle.model.specs.Rows.{refusal}
+use Rattle.model.specs.Checks.{planRows}
 use Rattle.model.specs.Writing.{entry}
 use Rattle.game.specs.declared.SequenceCounts.{SequenceCounts}
 use Rattle.game.specs.Records.{headerOf}
@@ -22,7 +23,7 @@ use Rattle.plan.specs.Weights.{weightByNumber}
 
 -- the refusal of a plan file for an accepted game, 14 to 16; 0 where it fits
 abbrev pub planRefusal : (game plan : List ℕ) → ℕ
-planRefusal game plan = firstFailing planChecks (record { game = game; plan = plan })
+planRefusal game plan = refusal planRows (files game plan)
 
 -- the answer for a refusal's number: 0 is none, and then D1, D2 and the numbers of sequences are given
 abbrev pub planAnswer : (refusal : ℕ) → (game plan : List ℕ) → PlanAnswer

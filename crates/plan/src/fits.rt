@@ -7,13 +7,13 @@ ghost use Rattle.algebra.specs.Arrays.{Holds};
 ghost use Rattle.model.specs.Game.{gameOf, playerOf, owns, one, two};
 ghost use Rattle.model.specs.Sequences.{firstNode};
 ghost use Rattle.model.specs.Writing.{entry};
-ghost use Rattle.model.specs.Demand1.{GameRules};
+ghost use Rattle.model.specs.Rules.{GameRules};
 ghost use Rattle.model.specs.Plan.{balanced, fits, pairFits};
-ghost use Rattle.game.specs.Answers.{checkedOf};
+ghost use Rattle.checks.specs.Checked.{checkedOf};
 ghost use Rattle.game.specs.Records.{headerOf};
 ghost use Rattle.game.specs.Sets.{firstSequence};
 ghost use Rattle.plan.specs.Weights.{planByNumber, pairByNumber, Small, Weights, Tables};
-use game::Checked;
+use checks::Checked;
 use game::Header;
 use game::SetEntry;
 use game::lookup;
@@ -68,7 +68,7 @@ fn player_fits(
     x: &[u64],
 ) -> Checked
     requires { ⌜ (header ≡ headerOf (now game)) × GameRules (gameOf (now game)) × (player < 2) × (4095 ≤ length (now own)) × Holds (firstSequence (gameOf (now game))) (gameOf (now game) .sets) (now starts) × Holds (firstNode (gameOf (now game))) (gameOf (now game) .sets) (now first) × Weights (gameOf (now game)) (playerOf player) (now x) ⌝ }
-    ensures { λ r. ⌜ r ≡ checkedOf (fits (gameOf (now (game .entry))) (playerOf player) (planByNumber (gameOf (now (game .entry))) (playerOf player) (entry (now (x .entry))))) ⌝ }
+    ensures { λ r. ⌜ r ≡ checkedOf 16 (fits (gameOf (now (game .entry))) (playerOf player) (planByNumber (gameOf (now (game .entry))) (playerOf player) (entry (now (x .entry))))) ⌝ }
 {
     recall::own_numbers(game, header.records, header.nodes, player, starts, own);
     let sets = header.sets;
@@ -77,7 +77,7 @@ fn player_fits(
         if set_balanced(game, player, h, starts, first, own, x) {
             h += 1;
         } else {
-            return Checked::Broken;
+            return Checked::Broken(16);
         }
     }
     Checked::Fine
@@ -86,14 +86,14 @@ fn player_fits(
 // Check 16.
 pub fn pair_fits(game: &[u8], header: Header, starts: &[u64], x: &[u64], y: &[u64]) -> Checked
     requires { ⌜ (header ≡ headerOf (now game)) × GameRules (gameOf (now game)) × Holds (firstSequence (gameOf (now game))) (gameOf (now game) .sets) (now starts) × Weights (gameOf (now game)) one (now x) × Weights (gameOf (now game)) two (now y) ⌝ }
-    ensures { λ r. ⌜ r ≡ checkedOf (pairFits (gameOf (now (game .entry))) (pairByNumber (gameOf (now (game .entry))) (entry (now (x .entry))) (entry (now (y .entry))))) ⌝ }
+    ensures { λ r. ⌜ r ≡ checkedOf 16 (pairFits (gameOf (now (game .entry))) (pairByNumber (gameOf (now (game .entry))) (entry (now (x .entry))) (entry (now (y .entry))))) ⌝ }
 {
     let mut first = [0u64; 4095];
     let mut own = [0u64; 4095];
     sets::first_nodes(game, header.records, header.nodes, header.sets, &mut first);
     let one = player_fits(game, header, 0, starts, &first, &mut own, x);
     let Checked::Fine = one else {
-        return Checked::Broken;
+        return one;
     };
     player_fits(game, header, 1, starts, &first, &mut own, y)
 }

@@ -3,16 +3,16 @@ ghost use mathlib.Core.Path.{_≡_};
 ghost use Prim.Native.Nat.{_≤_};
 ghost use lib.ListN.{length};
 ghost use Rattle.model.specs.Game.{gameOf, one, two};
-ghost use Rattle.model.specs.Demand1.{GameRules};
+ghost use Rattle.model.specs.Rules.{GameRules};
 ghost use Rattle.game.specs.Records.{headerOf};
 ghost use Rattle.plan.specs.Answers.{planRefusal, planAnswer, weightsAfter};
-use game::Checked;
+use checks::Checked;
 use game::Header;
 use game::SequenceCounts;
 use game::sets;
 
-mod checks;
 mod fits;
+mod format;
 mod header;
 pub mod pair;
 mod weights;
@@ -60,21 +60,21 @@ pub fn check(game: &[u8], header: Header, plan: &[u8], x: &mut [u64], y: &mut [u
     let moves1 = bits::index(counts.first - 1);
     let moves2 = bits::index(counts.second - 1);
     let moves = moves1 + moves2;
-    let c14 = checks::has_length(plan, moves);
+    let c14 = format::has_length(plan, moves);
     let Checked::Fine = c14 else {
-        return PlanAnswer::Refused(14);
+        return PlanAnswer::Refused(checks::number(c14));
     };
     let plan_header = PlanHeader::read(plan);
-    let c15 = checks::well_formed(plan_header, plan, moves);
+    let c15 = format::well_formed(plan_header, plan, moves);
     let Checked::Fine = c15 else {
-        return PlanAnswer::Refused(15);
+        return PlanAnswer::Refused(checks::number(c15));
     };
     let denominators = plan_header.denominators;
     weights::decode(plan, denominators.first, 0, moves1, x);
     weights::decode(plan, denominators.second, moves1, moves2, y);
     let c16 = fits::pair_fits(game, header, &starts, x, y);
     let Checked::Fine = c16 else {
-        return PlanAnswer::Refused(16);
+        return PlanAnswer::Refused(checks::number(c16));
     };
     PlanAnswer::Fits(denominators, counts)
 }

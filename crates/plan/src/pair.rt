@@ -5,7 +5,7 @@ ghost use lib.ListN.{length};
 ghost use Rattle.algebra.specs.Arrays.{placed};
 ghost use Rattle.algebra.specs.Bounded.{listTo};
 ghost use Rattle.model.specs.Game.{one, two};
-ghost use Rattle.model.specs.PlanChecks.{pairRefusal};
+ghost use Rattle.model.specs.Checks.{pairRefusal};
 ghost use Rattle.model.specs.Writing.{entry};
 ghost use Rattle.plan.specs.Answers.{refusalOf, pairAnswer, pairRefusalOf, weightsAfter, inFileOrder};
 use super::PairAnswer;

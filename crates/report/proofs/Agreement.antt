@@ -12,7 +12,7 @@ use Rattle.model.specs.BestResponse.{bestValue, bestResponse}
 use Rattle.model.specs.Verdict.{verdict, gain, deviates, equilibrium}
 use Rattle.model.specs.Report.{moveLine, valueLine, bestLine, gainAmount, verdictLines, report}
 use Rattle.form.specs.Values.{valuesOf}
-use Rattle.verdict.proofs.Judging.{verdictOf}
+use Rattle.verdict.proofs.Judging.{withoutMoves}
 use Rattle.text.specs.Lines.{amountLine}
 use Rattle.report.specs.Whole.{basesOf, bothLines, valuesText, strategyLines, deviationText, verdictText, reportText}
 
@@ -23,15 +23,15 @@ module _ (g : Game) (q : PlanPair) where
 
   -- Moves by set whose lines are those of the best responses.
   module _ (moves1 moves2 : List ℕ) (first : strategyLines g one moves1 ≡ flatMap moveLine (bestResponse g one (q two))) (second : strategyLines g two moves2 ≡ flatMap moveLine (bestResponse g two (q one))) where
-    verdict-is : verdictText g (valueBase g q) (verdictOf (verdict g q)) moves1 moves2 ≡ verdictLines g q (verdict g q)
+    verdict-is : verdictText g (valueBase g q) (withoutMoves (verdict g q)) moves1 moves2 ≡ verdictLines g q (verdict g q)
     unfolding verdict deviates verdictText deviationText amountLine verdictLines gainAmount
     verdict-is = go (ltZ (pos 0) (gain g q one)) (ltZ (pos 0) (gain g q two))
       where
-        go : (a b : Bool) → verdictText g (valueBase g q) (verdictOf (cond a (deviates g q one) (cond b (deviates g q two) equilibrium))) moves1 moves2 ≡ verdictLines g q (cond a (deviates g q one) (cond b (deviates g q two) equilibrium))
+        go : (a b : Bool) → verdictText g (valueBase g q) (withoutMoves (cond a (deviates g q one) (cond b (deviates g q two) equilibrium))) moves1 moves2 ≡ verdictLines g q (cond a (deviates g q one) (cond b (deviates g q two) equilibrium))
         go true b = rw first
         go false true = rw second
         go false false = refl
 
-    pub report-is : reportText g (basesOf (g .rootWeight) (q one .denominator) (q two .denominator)) (valuesOf g q) (verdictOf (verdict g q)) moves1 moves2 ≡ report g q
+    pub report-is : reportText g (basesOf (g .rootWeight) (q one .denominator) (q two .denominator)) (valuesOf g q) (withoutMoves (verdict g q)) moves1 moves2 ≡ report g q
     unfolding reportText report basesOf valueBase
     report-is = rw (values-are, verdict-is)

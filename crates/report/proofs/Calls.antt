@@ -1,129 +1,107 @@
--- What the calls give: their refusals, and the report as the files have it.
+-- What the calls give: a text or a refusal, and the report as the files have it.
 use Prim.Native.Nat.{ℕ, zero, suc, _≤_, _<_, _^_}
 use mathlib.Core.Path.{_≡_, refl, sym, _∙_}
-use mathlib.Core.Bool.{Bool, true, false, cond, _&&_}
-use mathlib.Core.List.{List}
+use mathlib.Core.Bool.{cond}
+use mathlib.Core.List.{List, []}
 use native.Mathlib.Omega.{arith}
-use native.Mathlib.Decide.{decLt}
-use borrow.Author.Tests.{le-leb, lt-leb, ne-eqb}
+use borrow.Author.Tests.{le-leb, ne-eqb}
 use lib.Dec.{eqb, leb}
 use lib.ListN.{length}
-use Rattle.algebra.proofs.Arrays.{placed-first}
 use Rattle.model.specs.Game.{Game, gameOf, one, two}
 use Rattle.model.specs.Plan.{PlanPair, planPairOf}
-use Rattle.model.specs.Refusals.{firstFailing, along, numbers}
-use Rattle.model.specs.GameChecks.{gameChecks, headerChecks, treeChecks}
-use Rattle.model.specs.PlanChecks.{Files, planChecks, pairChecks, pairRefusal}
-use Rattle.model.specs.Report.{refusalLine, reportOf, printed}
-use Rattle.model.specs.Calls.{withRoom, reportChecks, refusalLineChecks, afterCall}
+use Rattle.model.specs.PlanChecks.{files}
+use Rattle.model.specs.Checks.{pairRefusal, headerRows, treeRows, gameRows, planRows, pairRows, recordRows}
+use Rattle.model.specs.Rows.{of}
+use Rattle.model.specs.Report as Text
+use Rattle.model.specs.Call.{given, refused, answerOf, afterCall, outcome, run}
+use Rattle.model.specs.calls.Report as Call
+use Rattle.model.specs.calls.RefusalLine as Line
 use Rattle.model.proofs.Budget.{budget, game-limits, plan-limits}
-use Rattle.model.proofs.Demand1.{game-rules, plan-rules, pair-parts}
-use Rattle.model.proofs.Demand3.{demand3}
-use Rattle.model.proofs.Refusals.{first-below}
+use Rattle.model.proofs.Checks.{game-rules, plan-rules, pair-parts, pair-refusal, pair-named}
+use Rattle.model.proofs.Verdict.{files-mean}
+use Rattle.checks.specs.declared.Checked.{Checked}
+use Rattle.checks.specs.declared.Checked.the-variants.{Fine, Broken}
+use Rattle.checks.specs.Checked.{checkedOf, numberOf}
+use Rattle.checks.proofs.Chains.{begin, ends, call-refuses, call-gives, same-run}
+use Rattle.checks.proofs.Files.{pair-refuses, pair-fine}
+use Rattle.model.proofs.Rows.{refusal-below}
+use Rattle.checks.proofs.OneBuffer.{one-short, one-given}
 use Rattle.game.proofs.Headers.{header-weight, header-sets}
 use Rattle.game.proofs.NodeTests.{few-sets}
 use Rattle.plan.specs.declared.PairHeader.{PairHeader}
 use Rattle.plan.proofs.Pairs.{PairOpened}
 use Rattle.form.specs.declared.Values.{Values}
-use Rattle.calls.proofs.Denominators.{first-is, second-is}
-use Rattle.calls.proofs.Refusals.{pair-first, pair-short, pair-room}
-use Rattle.calls.proofs.Rooms.{refused-kept}
+use Rattle.plan.proofs.PairDenominators.{first-is, second-is}
 use Rattle.verdict.specs.declared.Verdict.{Verdict}
 use Rattle.verdict.specs.Judgement.{judged}
 use Rattle.verdict.proofs.Evaluated.{EvaluationOpened}
 use Rattle.verdict.proofs.Judged.{judged-as}
-use Rattle.writers.specs.Answers.{writeAnswer}
-use Rattle.writers.specs.declared.WriteAnswer.{WriteAnswer}
-use Rattle.writers.specs.declared.WriteAnswer.the-variants.{Written, Refused}
 use Rattle.text.specs.Text.{Put}
+use Rattle.text.proofs.Lengths.{refusal-line-length}
+use Rattle.report.specs.Giving.{giving}
 use Rattle.report.specs.Whole.{DenominatorsFit, most, pairReport, PairReady}
-use Rattle.report.specs.Reports.{roomRefusal, reportRefusal, refusalLineRefusal, Given}
 use Rattle.report.proofs.Strategies.{strategy-lines}
 use Rattle.report.proofs.Agreement.{report-is}
 use Rattle.report.proofs.Longest.{report-most}
-use Rattle.text.proofs.Lengths.{refusal-line-length}
 
--- A text with room for it, and without.
-module _ (text buffer : List ℕ) where
-  pub with-room : length text ≤ length buffer → {after : List ℕ} {n : ℕ} → Put 0 text buffer after n → Given text buffer (Written (length text)) after
-  unfolding roomRefusal afterCall
-  with-room l p = rw (le-leb (length text) (length buffer) l) (refl, p .buffer ∙ placed-first text buffer)
+-- A text that is given, by check 18 of its length.
+module _ (text buffer : List ℕ) {r : Checked} (checked : r ≡ checkedOf 18 (leb (length text) (length buffer))) where
+  pub text-short : {n m : ℕ} → r ≡ Broken n → m ≡ numberOf r → outcome (refused m) (buffer, tt) ≡ run giving text (buffer, tt)
+  unfolding giving
+  text-short f g = one-short giving tt text buffer (ends (begin [] text)) refl checked f g
 
-  pub without : length buffer < length text → Given text buffer (Refused 18) buffer
-  unfolding roomRefusal afterCall
-  without l = rw (lt-leb (length text) (length buffer) l) (refl, refl)
+  pub text-given : r ≡ Fine → {after : List ℕ} {n : ℕ} → Put 0 text buffer after n → outcome (given (length text)) (after, tt) ≡ run giving text (buffer, tt)
+  unfolding giving
+  text-given f put = one-given giving tt text buffer (ends (begin [] text)) refl checked f (put .buffer)
 
--- a refusal's line tests its room alone
-pub line-refusal : (number room : ℕ) → refusalLineRefusal number room ≡ roomRefusal (length (refusalLine number)) room
-unfolding refusalLineChecks withRoom firstFailing along roomRefusal
-line-refusal number room = go (leb (length (refusalLine number)) room)
-  where
-    go : (b : Bool) → _≡_ {A = ℕ} (cond (b && true) 0 18) (cond b 0 18)
-    go true = refl
-    go false = refl
+-- the line of a refusal is given as a text
+pub line-given : (number : ℕ) (buffer : List ℕ) → run giving (Text.refusalLine number) (buffer, tt) ≡ Line.refusalLine number buffer
+unfolding giving Line.call
+line-given number buffer = same-run giving Line.call tt tt (Text.refusalLine number) number (buffer, tt) (ends (begin [] (Text.refusalLine number)) ∙ sym (ends (begin [] number))) (λ none. (refl, refl))
 
 -- Two files.
 module _ (game plan : List ℕ) where
-  abbrev size : Files → ℕ
-  size f = length (reportOf (f .game) (f .plan))
-
   -- a pair that is refused
-  pair-refused : (room : ℕ) {r : ℕ} → r ≡ pairRefusal game plan → ¬ (r ≡ 0) → reportRefusal game plan room ≡ r
-  unfolding reportChecks
-  pair-refused room e n = pair-first size game plan room e n
+  pub report-refused : (buffer : List ℕ) {n : ℕ} → n ≡ pairRefusal game plan → ¬ (n ≡ 0) → outcome (refused n) (buffer, tt) ≡ Call.report game plan buffer
+  unfolding Call.call
+  report-refused buffer e s = sym (call-refuses Call.call pair-named (files game plan) (buffer, tt) (pair-refuses e s))
 
-  -- the answer and the buffer afterwards
-  abbrev pub Result : (buffer : List ℕ) → (refusal : ℕ) → WriteAnswer → (after : List ℕ) → Type 0
-  Result buffer k r after = (r ≡ writeAnswer k (length (reportOf game plan))) × (after ≡ afterCall k (reportOf game plan) buffer)
-
-  pub refused-given : (buffer : List ℕ) {r : ℕ} → r ≡ pairRefusal game plan → ¬ (r ≡ 0) → Result buffer (reportRefusal game plan (length buffer)) (Refused r) buffer
-  refused-given buffer e n = refused-kept (λ k. writeAnswer k (length (reportOf game plan))) Refused (λ k. refl) (reportOf game plan) buffer (pair-refused (length buffer) e n) n
-
-  -- one that is not tests its room
-  pub pair-told : (room : ℕ) → pairRefusal game plan ≡ 0 → reportRefusal game plan room ≡ roomRefusal (length (reportOf game plan)) room
-  unfolding reportChecks roomRefusal
-  pair-told room e =
-      elim (decLt room (length (reportOf game plan))) [
-        | yes l ↦ rw (lt-leb (length (reportOf game plan)) room l) (pair-short size game plan room e l)
-        | no l ↦ rw (le-leb (length (reportOf game plan)) room (omega arith)) (pair-room size game plan room e (omega arith))
-      ]
+  -- the report on one that is not is given as a text
+  pub report-given : (buffer : List ℕ) → pairRefusal game plan ≡ 0 → run giving (Text.reportOf game plan) (buffer, tt) ≡ Call.report game plan buffer
+  unfolding giving Call.call
+  report-given buffer e = same-run giving Call.call tt pair-named (Text.reportOf game plan) (files game plan) (buffer, tt) (ends (begin [] (Text.reportOf game plan)) ∙ sym (pair-fine game plan e)) (λ none. (refl, refl))
 
   -- the longest report
-  pub file-most : pairRefusal game plan ≡ 0 → length (reportOf game plan) ≤ most
-  unfolding reportOf
+  pub file-most : pairRefusal game plan ≡ 0 → length (Text.reportOf game plan) ≤ most
+  unfolding Text.reportOf
   file-most e =
       let g = gameOf game in
       let q = planPairOf g plan in
       let parts = pair-parts game plan .0 e in
       let rules = game-rules game (parts .0) in
-      report-most g (few-sets game) rules q (demand3 game plan (parts .0) (parts .1) .bases) (budget g rules (game-limits game) q (plan-rules game plan (parts .1) .fit) (plan-limits g plan))
+      report-most g (few-sets game) rules q (files-mean game plan (parts .0) (parts .1) .bases) (budget g rules (game-limits game) q (plan-rules game plan (parts .1) .fit) (plan-limits g plan))
 
   refusal-few : pairRefusal game plan < 2 ^ 64
-  unfolding pairRefusal numbers along pairChecks planChecks gameChecks headerChecks treeChecks
-  refusal-few = omega (arith, first-below pairChecks (record { game = game; plan = plan }) 17 (omega arith) tt)
+  unfolding pairRows planRows gameRows headerRows recordRows treeRows of
+  refusal-few = omega (arith, pair-refusal game plan, refusal-below pairRows (files game plan) 17 (omega arith) tt)
 
   -- what the program prints for any two files
-  pub printed-most : length (printed game plan) ≤ most
-  unfolding printed
+  pub printed-most : length (Text.printed game plan) ≤ most
+  unfolding Text.printed
   printed-most = go (pairRefusal game plan) refl refusal-few
     where
-      go : (k : ℕ) → pairRefusal game plan ≡ k → k < 2 ^ 64 → length (cond (eqb k 0) (reportOf game plan) (refusalLine k)) ≤ most
+      go : (k : ℕ) → pairRefusal game plan ≡ k → k < 2 ^ 64 → length (cond (eqb k 0) (Text.reportOf game plan) (Text.refusalLine k)) ≤ most
       go zero e l = file-most e
       go (suc k) e l = rw (ne-eqb (suc k) 0 (λ z. omega arith)) (omega (arith, refusal-line-length (suc k) l))
 
   -- with so much room the report is refused only where its files are
-  pub room-enough : (room : ℕ) → most ≤ room → reportRefusal game plan room ≡ pairRefusal game plan
-  unfolding roomRefusal
-  room-enough room l = go (pairRefusal game plan) refl
+  pub report-by-files : (buffer : List ℕ) → most ≤ length buffer → Call.report game plan buffer ≡ outcome (answerOf (pairRefusal game plan) (length (Text.reportOf game plan))) (afterCall (pairRefusal game plan) (Text.reportOf game plan) buffer, tt)
+  unfolding Call.call afterCall
+  report-by-files buffer l = go (pairRefusal game plan) refl
     where
-      go : (k : ℕ) → pairRefusal game plan ≡ k → reportRefusal game plan room ≡ pairRefusal game plan
-      go zero e = pair-told room e ∙ rw (le-leb (length (reportOf game plan)) room (omega (arith, file-most e))) (sym e)
-      go (suc k) e = pair-refused room refl (λ z. omega arith)
-
--- and no line of a refusal, with room for the longest
-pub line-enough : (number room : ℕ) → number < 2 ^ 64 → 29 ≤ room → refusalLineRefusal number room ≡ 0
-unfolding roomRefusal
-line-enough number room l b = line-refusal number room ∙ rw (le-leb (length (refusalLine number)) room (omega (arith, refusal-line-length number l)))
+      go : (k : ℕ) → pairRefusal game plan ≡ k → Call.report game plan buffer ≡ outcome (answerOf k (length (Text.reportOf game plan))) (afterCall k (Text.reportOf game plan) buffer, tt)
+      go zero e = call-gives Call.call pair-named (files game plan) (buffer, tt) (pair-fine game plan e) (rw (le-leb (length (Text.reportOf game plan)) (length buffer) (omega (arith, file-most e))))
+      go (suc k) e = sym (report-refused buffer (sym e) (λ z. omega arith))
 
 -- A pair that was read, with both players' weights by number.
 module _ (game plan : List ℕ) (h : PairHeader) (o : PairOpened game plan h) where
@@ -147,16 +125,16 @@ module _ (game plan : List ℕ) (h : PairHeader) (o : PairOpened game plan h) wh
         second-few = plan-limits g plan two .denominator;
       })
 
-  -- it is ready to be told, with a move for every set
+  -- it is ready to be reported, with a move for every set
   pub pair-ready : {moves1 moves2 : List ℕ} → gameOf game .sets ≤ length moves1 → gameOf game .sets ≤ length moves2 → PairReady game h moves1 moves2
   pair-ready l m =
       let same = header-sets (h .header) game (o .header) in
       record { sets = same; long1 = omega (arith, same); long2 = omega (arith, same); denominators = denominators-fit }
 
 -- The report on what was evaluated and judged is the files'.
-pub report-told : (game plan : List ℕ) (h : PairHeader) {v : Values} {moves1 moves2 : List ℕ} → EvaluationOpened game plan h v moves1 moves2 → {d : Verdict} → d ≡ judged (v .value1) (v .value2) (v .best1) (v .best2) (h .denominators .first) (h .denominators .second) → pairReport game h v d moves1 moves2 ≡ reportOf game plan
-unfolding reportOf
-report-told game plan h {v} {moves1} {moves2} e j =
+pub report-agrees : (game plan : List ℕ) (h : PairHeader) {v : Values} {moves1 moves2 : List ℕ} → EvaluationOpened game plan h v moves1 moves2 → {d : Verdict} → d ≡ judged (v .value1) (v .value2) (v .best1) (v .best2) (h .denominators .first) (h .denominators .second) → pairReport game h v d moves1 moves2 ≡ Text.reportOf game plan
+unfolding Text.reportOf
+report-agrees game plan h {v} {moves1} {moves2} e j =
     let g = gameOf game in
     let q = planPairOf g plan in
     let o = e .opened in

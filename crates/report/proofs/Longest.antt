@@ -16,7 +16,7 @@ use Rattle.model.specs.Earnings.{valueBase, valueCount, value, againstBase, pur
 use Rattle.model.specs.BestResponse.{worth, bestCount, bestValue, bestMove, bestResponse}
 use Rattle.model.specs.Verdict.{verdict, gain, deviates, equilibrium}
 use Rattle.model.specs.Report.{ascii, line, moveLine, valueLine, bestLine, gainAmount, verdictLines, report}
-use Rattle.model.specs.Demand1.{GameRules}
+use Rattle.model.specs.Rules.{GameRules}
 use Rattle.model.specs.Demand3.{BasesPositive}
 use Rattle.model.proofs.Budget.{Budget}
 use Rattle.text.specs.Lines.{amountLine}

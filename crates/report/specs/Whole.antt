@@ -1,4 +1,4 @@
--- The whole report, by the numbers that it tells.
+-- The whole report, by the numbers that it shows.
 use Prim.Native.Nat.{ℕ, _+_, _*_, _≤_, _<_}
 use mathlib.Core.Path.{_≡_}
 use mathlib.Core.Bool.{cond}

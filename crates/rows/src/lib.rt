@@ -1,12 +1,17 @@
 // The payoff table of a game as rows, each a small struct, into a lent slice.
 // It is made in number slices first. Only the functions that take the rows have a proof that walks their code by hand.
 ghost use mathlib.Core.Path.{_≡_};
+ghost use mathlib.Core.List.{map};
 ghost use Prim.Native.Nat.{_+_, _≤_};
 ghost use lib.ListN.{length};
 ghost use Rattle.algebra.specs.Arrays.{over};
-ghost use Rattle.model.specs.Calls.{afterCall};
-ghost use Rattle.table.specs.Tables.{columns, Copyable, tableAnswer};
-ghost use Rattle.rows.specs.Rows.{rowIn, rowsGiven, columnsIn, tableRows, rowsRefusal};
+ghost use Rattle.model.specs.Call.{outcome};
+ghost use Rattle.model.specs.calls.PayoffTable.{payoffRows};
+ghost use Rattle.table.specs.Answers.{tableAnswered};
+ghost use Rattle.table.specs.Tables.{columns, Copyable};
+ghost use Rattle.rows.specs.Answers.{modelRow};
+ghost use Rattle.rows.specs.Rows.{rowIn, rowsGiven, TableMade};
+use checks::Checked;
 use table::TableAnswer;
 
 // A row of the payoff table: the number of each player's sequence, and each player's sum.
@@ -27,17 +32,18 @@ fn tabulated<'a>(
     sum2: &'a mut [i64],
 ) -> TableAnswer
     requires { ⌜ Copyable 4095 (columns (now sequence1) (now sequence2) (now sum1) (now sum2)) ⌝ }
-    ensures { λ r. ⌜ (r ≡ tableAnswer (rowsRefusal (now (game .entry)) room) (now (game .entry))) × (columns (now (sequence1 .exit)) (now (sequence2 .exit)) (now (sum1 .exit)) (now (sum2 .exit)) ≡ columnsIn (now (game .entry)) (columns (now (sequence1 .entry)) (now (sequence2 .entry)) (now (sum1 .entry)) (now (sum2 .entry)))) ⌝ }
+    ensures { λ r. ⌜ TableMade (now (game .entry)) room (columns (now (sequence1 .entry)) (now (sequence2 .entry)) (now (sum1 .entry)) (now (sum2 .entry))) r (columns (now (sequence1 .exit)) (now (sequence2 .exit)) (now (sum1 .exit)) (now (sum2 .exit))) ⌝ }
 {
     let checked = game::check(game);
     let game::GameAnswer::Accepted(header) = checked else {
         return TableAnswer::Refused(game::refusal(checked));
     };
     let rows = payoff::table::tabulate(game, header, sequence1, sequence2, sum1, sum2);
-    if rows <= room {
-        return TableAnswer::Given { rows: rows as u64 };
-    }
-    TableAnswer::Refused(18)
+    let c18 = checks::has_room(rows, room);
+    let Checked::Fine = c18 else {
+        return TableAnswer::Refused(checks::number(c18));
+    };
+    TableAnswer::Given { rows: rows as u64 }
 }
 
 // How many rows an answer gives.
@@ -90,7 +96,7 @@ fn fill_rows<'a>(
 
 // The payoff table, each row into its place.
 pub fn payoff_rows(game: &[u8], rows: &mut [Row]) -> TableAnswer
-    ensures { λ r. ⌜ (r ≡ tableAnswer (rowsRefusal (now (game .entry)) (length (now (rows .entry)))) (now (game .entry))) × (now (rows .exit) ≡ afterCall (rowsRefusal (now (game .entry)) (length (now (rows .entry)))) (tableRows (now (game .entry))) (now (rows .entry))) ⌝ }
+    ensures { λ r. ⌜ outcome (tableAnswered r) (map modelRow (now (rows .exit)), tt) ≡ payoffRows (now (game .entry)) (map modelRow (now (rows .entry))) ⌝ }
 {
     let mut sequence1 = [0u64; 4095];
     let mut sequence2 = [0u64; 4095];

@@ -1,7 +1,7 @@
 -- The call that gives the payoff table: its refusals, and its four buffers afterwards.
-use Prim.Native.Nat.{ℕ, zero, suc, _≤_}
+use Prim.Native.Nat.{ℕ, _≤_, _<_}
 use mathlib.Core.Path.{_≡_, refl, sym, ap, _∙_}
-use mathlib.Core.Bool.{Bool, true, false}
+use mathlib.Core.Bool.{Bool}
 use mathlib.Core.List.{List, [], _∷_, map}
 use native.Mathlib.Omega.{arith}
 use lib.ListN.{length, drop, getD, length-append, length-map, List·getD-append}
@@ -10,28 +10,39 @@ use Rattle.algebra.specs.Arrays.{placed, over}
 use Rattle.algebra.proofs.Arrays.{placed-first}
 use Rattle.algebra.proofs.Lists.{listTo-is}
 use Rattle.model.specs.Game.{gameOf}
-use Rattle.model.specs.GameChecks.{gameRefusal}
+use Rattle.model.specs.Checks.{gameRefusal}
 use Rattle.model.specs.Table.{Row, payoffTable}
-use Rattle.model.specs.Calls.{longEnough, afterCall, withRoom, tableChecks}
-use Rattle.game.proofs.Outcomes.{Sent, refuses}
+use Rattle.model.specs.Call.{Answer, given, refused, Buffers, lengths, longEnough, afterCall, afterAll, outcome}
+use Rattle.model.specs.calls.PayoffTable as PayoffTable
+use Rattle.model.proofs.Checks.{game-named}
+use Rattle.checks.specs.declared.Checked.{Checked}
+use Rattle.checks.specs.declared.Checked.the-variants.{Fine, Broken}
+use Rattle.checks.specs.Checked.{checkedOf, numberOf}
+use Rattle.checks.proofs.Chains.{fine-holds, call-refuses, call-short, call-gives}
+use Rattle.checks.proofs.Files.{game-refuses, game-fine}
+use Rattle.checks.proofs.Rooms.{split, over-after}
+use Rattle.game.proofs.Outcomes.{Sent}
 use Rattle.payoff.specs.Table.{TableIn}
-use Rattle.table.specs.declared.TableAnswer.{TableAnswer}
-use Rattle.table.specs.declared.TableAnswer.the-variants.{Given, Refused}
-use Rattle.table.specs.Tables.{Columns, columns, columnsOf, columnRooms, tableRefusal, columnsAfter, tableAnswer, Copyable, copied}
-use Rattle.calls.proofs.Rooms.{split, over-after}
-use Rattle.calls.proofs.Refusals.{game-first, game-last, game-none}
+use Rattle.table.specs.Tables.{Columns, columns, Copyable, copied}
+
+-- four columns as lent buffers
+abbrev pub buffersOf : Columns → Buffers PayoffTable.shape
+buffersOf b = (b .sequence1, (b .sequence2, (b .sum1, (b .sum2, tt))))
 
 -- A column that stands in an array from the first place on.
-module _ {A : Type 0} {from : List A} (before l : List A) {n : ℕ} (is : from ≡ placed 0 l before) (size : n ≡ length l) where
-  -- the array has all its rows
-  column-long : n ≤ length from
-  column-long = omega (arith, size, ap length (is ∙ placed-first l before), length-append l (drop (length l) before))
+module _ {A : Type 0} {from : List A} (before l : List A) (is : from ≡ placed 0 l before) where
+  -- the array begins with it
+  pub column-at : (d : A) (i : ℕ) → i < length l → getD from i d ≡ getD l i d
+  column-at d i v = ap (λ (k : List A). getD k i d) (is ∙ placed-first l before) ∙ List·getD-append l (drop (length l) before) d i v
 
-  -- copied, it is the buffer after the call
-  column-copied : (d : A) (to : List A) → over (λ i. getD from i d) n to ≡ afterCall 0 l to
-  column-copied d to =
-      over-after (λ i. getD from i d) n to
-      ∙ ap (λ (k : List A). afterCall 0 k to) (listTo-is d (λ i. getD from i d) l size refl (λ i v. ap (λ (k : List A). getD k i d) (is ∙ placed-first l before) ∙ List·getD-append l (drop (length l) before) d i v))
+  module _ {n : ℕ} (size : n ≡ length l) where
+    -- and has all its rows
+    column-long : n ≤ length from
+    column-long = omega (arith, size, ap length (is ∙ placed-first l before), length-append l (drop (length l) before))
+
+    -- copied, it is the buffer after the call
+    column-copied : (d : A) (to : List A) → over (λ i. getD from i d) n to ≡ afterCall 0 l to
+    column-copied d to = over-after (λ i. getD from i d) n to ∙ ap (λ (k : List A). afterCall 0 k to) (listTo-is d (λ i. getD from i d) l size refl (column-at d))
 
 -- A table that stands in four arrays.
 module _ {t : List Row} {before1 before2 : List ℕ} {beforeSum1 beforeSum2 : List ℤ} {n : ℕ} {sequence1 sequence2 : List ℕ} {sum1 sum2 : List ℤ} (h : TableIn t before1 before2 beforeSum1 beforeSum2 n sequence1 sequence2 sum1 sum2) where
@@ -48,7 +59,7 @@ module _ {t : List Row} {before1 before2 : List ℕ} {beforeSum1 beforeSum2 : Li
   }
 
   -- copied, its columns are the buffers after the call
-  table-copied : (b : Columns) → copied n (columns sequence1 sequence2 sum1 sum2) b ≡ columns (afterCall 0 (columnsOf t .sequence1) (b .sequence1)) (afterCall 0 (columnsOf t .sequence2) (b .sequence2)) (afterCall 0 (columnsOf t .sum1) (b .sum1)) (afterCall 0 (columnsOf t .sum2) (b .sum2))
+  table-copied : (b : Columns) → buffersOf (copied n (columns sequence1 sequence2 sum1 sum2) b) ≡ afterAll PayoffTable.shape 0 (PayoffTable.columns t) (buffersOf b)
   table-copied b =
       rw (
         column-copied _ _ (h .sequence1-is) (counts (λ r. r .sequence1)) 0 (b .sequence1),
@@ -58,52 +69,43 @@ module _ {t : List Row} {before1 before2 : List ℕ} {beforeSum1 beforeSum2 : Li
       )
 
 module _ (bytes : List ℕ) (b : Columns) where
-  -- the answer and the buffers afterwards
-  abbrev pub Result : TableAnswer → Columns → Type 0
-  Result r a = (r ≡ tableAnswer (tableRefusal bytes b) bytes) × (a ≡ columnsAfter bytes b)
+  abbrev table : List Row
+  table = payoffTable (gameOf bytes)
 
-  -- the buffers as they were
-  abbrev pub kept : Columns
-  kept = columns (b .sequence1) (b .sequence2) (b .sum1) (b .sum2)
-
-  kept-is : {r : ℕ} → tableRefusal bytes b ≡ r → ¬ (r ≡ 0) → Result (Refused r) kept
-  unfolding columnsAfter afterCall
-  kept-is {r} e n = (refuses (λ k. tableAnswer k bytes) Refused (λ k. refl) e n, go r e n)
-    where
-      go : (r : ℕ) → tableRefusal bytes b ≡ r → ¬ (r ≡ 0) → kept ≡ columnsAfter bytes b
-      go zero e n = absurd (n refl)
-      go (suc r) e n = rw e
+  -- an answer and buffers that are the call's
+  abbrev pub Result : Answer ℕ → Columns → Type 0
+  Result r a = outcome r (buffersOf a) ≡ PayoffTable.payoffColumns bytes (buffersOf b)
 
   -- the game's own refusal
-  pub file-refused : {r : ℕ} → Sent bytes r → Result (Refused r) kept
-  unfolding tableRefusal tableChecks withRoom
-  file-refused s = kept-is (game-first _ _ _ _ s) (s .some)
+  pub file-refused : {r : ℕ} → Sent bytes r → Result (refused r) b
+  unfolding PayoffTable.columnsCall
+  file-refused s = sym (call-refuses PayoffTable.columnsCall game-named bytes (buffersOf b) (game-refuses (s .number) (s .some)))
 
   -- whether each buffer is long enough for n rows
   abbrev pub enough : (n : ℕ) → Bool
-  enough n = longEnough (n ∷ n ∷ n ∷ n ∷ []) (columnRooms b)
+  enough n = longEnough (n ∷ n ∷ n ∷ n ∷ []) (lengths PayoffTable.shape (buffersOf b))
+
+  -- 18 as the call has it
+  measured : {n : ℕ} → n ≡ length table → enough n ≡ longEnough (lengths PayoffTable.shape (PayoffTable.columns table)) (lengths PayoffTable.shape (buffersOf b))
+  measured e = rw (e, length-map table (λ r. r .sequence1), length-map table (λ r. r .sequence2), length-map table (λ r. r .sum1), length-map table (λ r. r .sum2))
 
   -- a buffer too short
-  pub no-room : gameRefusal bytes ≡ 0 → {n : ℕ} → n ≡ length (payoffTable (gameOf bytes)) → {r : Bool} → r ≡ enough n → r ≡ false → Result (Refused 18) kept
-  unfolding tableRefusal tableChecks withRoom
-  no-room none size r f = kept-is (game-last _ _ _ _ none (ap enough (sym size) ∙ sym r ∙ f)) (λ z. omega arith)
+  pub no-room : gameRefusal bytes ≡ 0 → {n : ℕ} → n ≡ length table → {r : Checked} {k m : ℕ} → r ≡ checkedOf 18 (enough n) → r ≡ Broken k → m ≡ numberOf r → Result (refused m) b
+  unfolding PayoffTable.columnsCall
+  no-room none size e f g = sym (call-short PayoffTable.columnsCall game-named bytes (buffersOf b) (game-fine bytes none) (e ∙ ap (checkedOf 18) (measured size)) f g)
 
   -- every buffer has its room
-  pub has-room : (n : ℕ) {r : Bool} → r ≡ enough n → r ≡ true → Copyable n b
-  has-room n r e =
-      let t0 = split _ _ (sym r ∙ e) in
+  pub has-room : (n : ℕ) {r : Checked} → r ≡ checkedOf 18 (enough n) → r ≡ Fine → Copyable n b
+  has-room n e f =
+      let t0 = split _ _ (fine-holds 18 (enough n) e f) in
       let t1 = split _ _ (t0 .1) in
       let t2 = split _ _ (t1 .1) in
       let t3 = split _ _ (t2 .1) in
       record { sequence1 = t0 .0; sequence2 = t1 .0; sum1 = t2 .0; sum2 = t3 .0 }
 
-  free : gameRefusal bytes ≡ 0 → enough (length (payoffTable (gameOf bytes))) ≡ true → tableRefusal bytes b ≡ 0
-  unfolding tableRefusal tableChecks withRoom
-  free none t = game-none _ _ _ _ none t
-
   -- the whole table given
-  pub all-given : gameRefusal bytes ≡ 0 → {before1 before2 : List ℕ} {beforeSum1 beforeSum2 : List ℤ} {n : ℕ} {sequence1 sequence2 : List ℕ} {sum1 sum2 : List ℤ} → TableIn (payoffTable (gameOf bytes)) before1 before2 beforeSum1 beforeSum2 n sequence1 sequence2 sum1 sum2 → {r : Bool} → r ≡ enough n → r ≡ true → {a : Columns} → a ≡ copied n (columns sequence1 sequence2 sum1 sum2) b → Result (Given n) a
-  unfolding columnsAfter
-  all-given none h r t f =
-      let e = free none (ap enough (sym (h .counted)) ∙ sym r ∙ t) in
-      (rw (e, h .counted), f ∙ table-copied h b ∙ rw e)
+  pub all-given : gameRefusal bytes ≡ 0 → {before1 before2 : List ℕ} {beforeSum1 beforeSum2 : List ℤ} {n : ℕ} {sequence1 sequence2 : List ℕ} {sum1 sum2 : List ℤ} → TableIn table before1 before2 beforeSum1 beforeSum2 n sequence1 sequence2 sum1 sum2 → {r : Checked} → r ≡ checkedOf 18 (enough n) → r ≡ Fine → {a : Columns} → a ≡ copied n (columns sequence1 sequence2 sum1 sum2) b → Result (given n) a
+  unfolding PayoffTable.columnsCall
+  all-given none {n = n} h e f g =
+      rw (g, table-copied h b, h .counted)
+      (sym (call-gives PayoffTable.columnsCall game-named bytes (buffersOf b) (game-fine bytes none) (sym (measured (h .counted)) ∙ fine-holds 18 (enough n) e f)))

@@ -5,8 +5,12 @@ ghost use mathlib.Core.List.{[], _∷_};
 ghost use lib.ListN.{length};
 ghost use Rattle.algebra.specs.Arrays.{over};
 ghost use Rattle.model.specs.Writing.{entry, entryZ};
-ghost use Rattle.model.specs.Calls.{longEnough};
-ghost use Rattle.table.specs.Tables.{columns, copied, Copyable, tableRefusal, tableAnswer, columnsAfter};
+ghost use Rattle.model.specs.Call.{longEnough, outcome};
+ghost use Rattle.model.specs.calls.PayoffTable.{payoffColumns};
+ghost use Rattle.checks.specs.Checked.{checkedOf};
+ghost use Rattle.table.specs.Answers.{tableAnswered};
+ghost use Rattle.table.specs.Tables.{columns, copied, Copyable};
+use checks::Checked;
 
 // How many rows the payoff table has, which stand in the lent buffers; a refusal is 1 to 13, or 18.
 pub enum TableAnswer {
@@ -59,14 +63,15 @@ fn copy_rows(
     copy_sums(from_sum2, n, sum2);
 }
 
-// Whether the buffers have room for `n` rows: lengths alone.
-fn has_room(n: usize, sequence1: usize, sequence2: usize, sum1: usize, sum2: usize) -> bool
-    ensures { λ r. ⌜ r ≡ longEnough (n ∷ n ∷ n ∷ n ∷ []) (sequence1 ∷ sequence2 ∷ sum1 ∷ sum2 ∷ []) ⌝ }
+// Check 18: whether the buffers have room for `n` rows, by their lengths alone.
+fn has_room(n: usize, sequence1: usize, sequence2: usize, sum1: usize, sum2: usize) -> Checked
+    ensures { λ r. ⌜ r ≡ checkedOf 18 (longEnough (n ∷ n ∷ n ∷ n ∷ []) (sequence1 ∷ sequence2 ∷ sum1 ∷ sum2 ∷ [])) ⌝ }
 {
-    let ok = calls::room_and(n, sum2, true);
-    let ok = calls::room_and(n, sum1, ok);
-    let ok = calls::room_and(n, sequence2, ok);
-    calls::room_and(n, sequence1, ok)
+    let ok = checks::room_and(n, sum2, true);
+    let ok = checks::room_and(n, sum1, ok);
+    let ok = checks::room_and(n, sequence2, ok);
+    let ok = checks::room_and(n, sequence1, ok);
+    checks::check(18, ok)
 }
 
 // The payoff table, each column into its buffer: both players' sequence numbers, and for each player the sum of chance weight × payoff.
@@ -77,7 +82,7 @@ pub fn payoff_table(
     sum1: &mut [i64],
     sum2: &mut [i64],
 ) -> TableAnswer
-    ensures { λ r. ⌜ (r ≡ tableAnswer (tableRefusal (now (game .entry)) (columns (now (sequence1 .entry)) (now (sequence2 .entry)) (now (sum1 .entry)) (now (sum2 .entry)))) (now (game .entry))) × (columns (now (sequence1 .exit)) (now (sequence2 .exit)) (now (sum1 .exit)) (now (sum2 .exit)) ≡ columnsAfter (now (game .entry)) (columns (now (sequence1 .entry)) (now (sequence2 .entry)) (now (sum1 .entry)) (now (sum2 .entry)))) ⌝ }
+    ensures { λ r. ⌜ outcome (tableAnswered r) (now (sequence1 .exit), (now (sequence2 .exit), (now (sum1 .exit), (now (sum2 .exit), tt)))) ≡ payoffColumns (now (game .entry)) (now (sequence1 .entry), (now (sequence2 .entry), (now (sum1 .entry), (now (sum2 .entry), tt)))) ⌝ }
 {
     let checked = game::check(game);
     let game::GameAnswer::Accepted(header) = checked else {
@@ -88,16 +93,16 @@ pub fn payoff_table(
     let mut t1 = [0i64; 4095];
     let mut t2 = [0i64; 4095];
     let rows = payoff::table::tabulate(game, header, &mut s1, &mut s2, &mut t1, &mut t2);
-    let room = has_room(
+    let c18 = has_room(
         rows,
         sequence1.len(),
         sequence2.len(),
         sum1.len(),
         sum2.len(),
     );
-    if room {
-        copy_rows(rows, &s1, &s2, &t1, &t2, sequence1, sequence2, sum1, sum2);
-        return TableAnswer::Given { rows: rows as u64 };
-    }
-    TableAnswer::Refused(18)
+    let Checked::Fine = c18 else {
+        return TableAnswer::Refused(checks::number(c18));
+    };
+    copy_rows(rows, &s1, &s2, &t1, &t2, sequence1, sequence2, sum1, sum2);
+    TableAnswer::Given { rows: rows as u64 }
 }

@@ -2,9 +2,9 @@
 use entry::FieldsAnswer;
 use entry::GameAnswer;
 use entry::NodeAnswer;
+use entry::Place;
 use entry::SequenceAnswer;
 use entry::SetAnswer;
-use entry::Stand;
 use trials::ROOM;
 use trials::lists::line_at;
 use trials::lists::next_line;
@@ -74,34 +74,34 @@ fn say_sequence(answer: SequenceAnswer) {
 }
 
 // What every node record has.
-fn say_stand(stand: Stand) {
-    say_number(b" parent ", stand.parent);
-    say_number(b" move ", stand.place);
-    say_number(b" weight ", stand.weight);
+fn say_place(at: Place) {
+    say_number(b" parent ", at.parent);
+    say_number(b" move ", at.place);
+    say_number(b" weight ", at.weight);
 }
 
 // The answer for a node.
 fn say_node(answer: NodeAnswer) {
     match answer {
         NodeAnswer::Leaf {
-            stand,
+            at,
             payoff1,
             payoff2,
         } => {
             say(b": leaf");
-            say_stand(stand);
+            say_place(at);
             say(b" payoffs");
             say_payoff(payoff1);
             say_payoff(payoff2);
         }
-        NodeAnswer::Decision { stand, set } => {
+        NodeAnswer::Decision { at, set } => {
             say(b": decision");
-            say_stand(stand);
+            say_place(at);
             say_number(b" set ", set);
         }
-        NodeAnswer::Chance { stand, moves } => {
+        NodeAnswer::Chance { at, moves } => {
             say(b": chance");
-            say_stand(stand);
+            say_place(at);
             say_number(b" moves ", moves);
         }
         NodeAnswer::Refused(number) => say_refusal(number),

@@ -8,10 +8,10 @@ use lib.ListN.{length, replicate, length-replicate}
 use Rattle.model.specs.Game.{Player, gameOf, one, two, other, owns}
 use Rattle.model.specs.Sequences.{sequenceCount}
 use Rattle.model.specs.Plan.{planPairOf, pairFits}
-use Rattle.model.specs.PlanChecks.{pairRefusal}
+use Rattle.model.specs.Checks.{pairRefusal}
 use Rattle.model.specs.Writing.{entry}
-use Rattle.model.specs.Demand1.{GameRules}
-use Rattle.model.proofs.Demand1.{game-rules}
+use Rattle.model.specs.Rules.{GameRules}
+use Rattle.model.proofs.Checks.{game-rules}
 use Rattle.algebra.specs.Arrays.{Holds, over}
 use Rattle.game.specs.Records.{headerOf}
 use Rattle.game.specs.Sets.{countsOf}

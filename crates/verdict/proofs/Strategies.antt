@@ -4,7 +4,7 @@ use mathlib.Core.Path.{_≡_, sym, ap, _∙_}
 use mathlib.Core.Bool.{cond}
 use mathlib.Core.List.{List, [], _∷_, map}
 use lib.Dec.{T}
-use lib.ListN.{length, set, length-map}
+use lib.ListN.{length, set}
 use Rattle.algebra.specs.Arrays.{placed, Holds}
 use Rattle.algebra.proofs.Lists.{joinTo-cong, map-joinTo}
 use Rattle.algebra.proofs.Tests.{dec, cond-yes, cond-no}
@@ -15,7 +15,6 @@ use Rattle.model.specs.Plan.{RealizationPlan}
 use Rattle.model.specs.Earnings.{setsOf}
 use Rattle.model.specs.BestResponse.{bestMove, bestAt, bestResponse}
 use Rattle.model.specs.Writing.{entry}
-use Rattle.model.proofs.BestResponses.{response-sets}
 use Rattle.game.specs.declared.SetEntry.{SetEntry}
 use Rattle.game.specs.Records.{SetRead}
 use Rattle.plan.proofs.Balance.{own-set, not-own-set}
@@ -57,7 +56,3 @@ module _ (g : Game) (p : Player) (y : RealizationPlan) where
           rw (cond-yes (owns g p h) (h ∷ []) [] o, cond-yes {A = List Move} (owns g p h) ((h, bestMove g p y h) ∷ []) [] o)
           (ap (λ (m : ℕ). m ∷ []) (held .at h l ∙ cond-yes (owns g p h) (bestMove g p y h) 0 o))
       at-set h l (no o) = rw (cond-no (owns g p h) (h ∷ []) [] o, cond-no {A = List Move} (owns g p h) ((h, bestMove g p y h) ∷ []) [] o)
-
-  -- and as many
-  pub strategy-length : length (setsOf g p) ≡ length (bestResponse g p y)
-  strategy-length = ap length (sym (response-sets g p y)) ∙ length-map (bestResponse g p y) (λ (x : Move). x .0)

@@ -1,21 +1,36 @@
--- What was evaluated is what the answer gives.
+-- What the call for values answers.
 use Prim.Native.Nat.{ℕ}
-use mathlib.Core.Path.{_≡_}
-use mathlib.Core.List.{List}
+use mathlib.Core.Path.{_≡_, refl, sym, ap}
+use mathlib.Core.List.{List, []}
 use lib.IntN.{ℤ}
 use Rattle.model.specs.Game.{gameOf}
-use Rattle.model.specs.PlanChecks.{pairRefusal}
+use Rattle.model.specs.PlanChecks.{files}
+use Rattle.model.specs.Checks.{pairRefusal}
 use Rattle.model.specs.Plan.{planPairOf}
+use Rattle.model.specs.Call.{Outcome, Answer, given, refused}
+use Rattle.model.specs.calls.Values.{PairValues, call, values}
+use Rattle.model.proofs.Checks.{pair-named}
+use Rattle.checks.proofs.Chains.{call-refuses, call-gives}
+use Rattle.checks.proofs.Files.{pair-refuses, pair-fine}
 use Rattle.game.proofs.Headers.{header-weight}
 use Rattle.plan.specs.declared.PairHeader.{PairHeader}
 use Rattle.plan.proofs.Pairs.{PairOpened}
 use Rattle.form.specs.declared.Values.{Values}
 use Rattle.form.specs.Values.{valuesOf}
-use Rattle.verdict.specs.declared.ValuesAnswer.the-variants.{Given}
-use Rattle.verdict.specs.Values.{valuesAnswer}
-use Rattle.calls.proofs.Denominators.{first-is, second-is}
+use Rattle.plan.proofs.PairDenominators.{first-is, second-is}
 
--- what is read of the values, as the answer gives it
-pub values-are-read : (game plan : List ℕ) (h : PairHeader) → PairOpened game plan h → {v : Values} → v ≡ valuesOf (gameOf game) (planPairOf (gameOf game) plan) → {a b c d : ℤ} → a ≡ v .value1 → b ≡ v .value2 → c ≡ v .best1 → d ≡ v .best2 → Given a b c d (h .header .«root_weight») (h .denominators .first) (h .denominators .second) ≡ valuesAnswer (pairRefusal game plan) game plan
-unfolding valuesOf
-values-are-read game plan h o v a b c d = rw (o .none, a, b, c, d, v, header-weight (h .header) game (o .header), first-is game plan h o, second-is game plan h o)
+module _ (game plan : List ℕ) where
+  abbrev answer : Outcome [] PairValues → Answer PairValues
+  answer o = o .answer
+
+  -- the pair's refusal
+  pub values-refused : {n : ℕ} → n ≡ pairRefusal game plan → ¬ (n ≡ 0) → refused n ≡ values game plan .answer
+  unfolding call
+  values-refused e s = ap answer (sym (call-refuses call pair-named (files game plan) tt (pair-refuses e s)))
+
+  -- what was evaluated
+  pub values-given : (h : PairHeader) → PairOpened game plan h → {v : Values} → v ≡ valuesOf (gameOf game) (planPairOf (gameOf game) plan) → {a b c d : ℤ} → a ≡ v .value1 → b ≡ v .value2 → c ≡ v .best1 → d ≡ v .best2 → given (record { value1 = a; value2 = b; best1 = c; best2 = d; d0 = h .header .«root_weight»; d1 = h .denominators .first; d2 = h .denominators .second }) ≡ values game plan .answer
+  unfolding call valuesOf
+  values-given h o v a b c d =
+      rw (a, b, c, d, v, header-weight (h .header) game (o .header), first-is game plan h o, second-is game plan h o)
+      (ap answer (sym (call-gives call pair-named (files game plan) tt (pair-fine game plan (o .none)) refl)))

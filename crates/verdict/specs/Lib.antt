@@ -1,6 +1,5 @@
-pub mod Demand
+pub mod Answers
 pub mod Judgement
 pub mod Pairs
+pub mod Showing
 pub mod Strategy
-pub mod Values
-pub mod Verdicts

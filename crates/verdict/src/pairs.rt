@@ -3,7 +3,7 @@ ghost use mathlib.Core.Path.{_≡_};
 ghost use Prim.Native.Nat.{_≤_};
 ghost use lib.ListN.{length};
 ghost use Rattle.model.specs.Game.{one, two};
-ghost use Rattle.model.specs.PlanChecks.{pairRefusal};
+ghost use Rattle.model.specs.Checks.{pairRefusal};
 ghost use Rattle.verdict.specs.Pairs.{pairEvaluated, evaluatedRefusal, movesAfter};
 use super::PairEvaluated;
 use plan::PairAnswer;

@@ -1,14 +1,14 @@
 // Values and best values of a pair.
 ghost use mathlib.Core.Path.{_≡_};
-ghost use Rattle.model.specs.PlanChecks.{pairRefusal};
-ghost use Rattle.verdict.specs.Values.{valuesAnswer};
+ghost use Rattle.model.specs.calls.Values.{values};
+ghost use Rattle.verdict.specs.Answers.{valuesAnswered};
 use super::PairEvaluated;
 use super::ValuesAnswer;
 use super::pairs;
 
 // The players' values and best values, with what they are counted over.
 pub fn values(game: &[u8], plan: &[u8]) -> ValuesAnswer
-    ensures { λ r. ⌜ r ≡ valuesAnswer (pairRefusal (now (game .entry)) (now (plan .entry))) (now (game .entry)) (now (plan .entry)) ⌝ }
+    ensures { λ r. ⌜ valuesAnswered r ≡ values (now (game .entry)) (now (plan .entry)) .answer ⌝ }
 {
     let mut moves1 = [0usize; 4095];
     let mut moves2 = [0usize; 4095];

@@ -6,16 +6,20 @@ ghost use lib.ListN.{length};
 ghost use Rattle.model.specs.Game.{gameOf, playerOf};
 ghost use Rattle.model.specs.Earnings.{baseOf, setsOf};
 ghost use Rattle.model.specs.Writing.{entry};
-ghost use Rattle.model.specs.Calls.{afterCall};
+ghost use Rattle.model.specs.Call.{outcome, run};
 ghost use Rattle.model.specs.Budget.{weightLimit};
+ghost use Rattle.model.specs.calls.Verdict.{verdict};
+ghost use Rattle.model.specs.Demand3.{Demand3Met};
+ghost use Rattle.verdict.specs.Answers.{verdictAnswered};
 ghost use Rattle.verdict.specs.Judgement.{judged, GainFits};
-ghost use Rattle.verdict.specs.Verdicts.{verdictRefusal, verdictAnswer, shownIn, Demanded, deviationShown, deviationBuffer};
+ghost use Rattle.verdict.specs.Showing.{showing};
 use super::PairEvaluated;
 use super::Verdict;
 use super::VerdictAnswer;
 use super::judgement;
 use super::pairs;
 use super::strategy;
+use checks::Checked;
 use form::Values;
 use plan::Denominators;
 use plan::PairHeader;
@@ -47,32 +51,34 @@ pub fn judge(values: Values, denominators: Denominators) -> Verdict
 // The deviation of a player, given by his bit, with the moves of his sets in the buffer; 18 where it is too short for them.
 fn show(
     game: &[u8],
-    pair: PairHeader,
+    sets: usize,
     player: u64,
     gain: i64,
+    base: u64,
     moves: &[usize],
     out: &mut [u64],
 ) -> VerdictAnswer
-    requires { ⌜ (pair .header .sets ≡ gameOf (now game) .sets) × (player < 2) × (pair .header .sets ≤ length (now moves)) × (pair .header .«root_weight» ≤ 4095) × (pair .denominators .first ≤ weightLimit) × (pair .denominators .second ≤ weightLimit) ⌝ }
-    ensures { λ r. ⌜ (r ≡ deviationShown (length (setsOf (gameOf (now (game .entry))) (playerOf player))) (length (now (out .entry))) (suc player) gain (baseOf (pair .header .«root_weight») (pair .denominators .first) (pair .denominators .second))) × (now (out .exit) ≡ deviationBuffer (map (entry (now (moves .entry))) (setsOf (gameOf (now (game .entry))) (playerOf player))) (now (out .entry))) ⌝ }
+    requires { ⌜ (sets ≡ gameOf (now game) .sets) × (player < 2) × (sets ≤ length (now moves)) ⌝ }
+    ensures { λ r. ⌜ outcome (verdictAnswered r) (now (out .exit), tt) ≡ run (showing (suc player) gain base) (map (entry (now (moves .entry))) (setsOf (gameOf (now (game .entry))) (playerOf player))) (now (out .entry), tt) ⌝ }
 {
-    let sets = strategy::set_count(game, pair.header.sets, player);
-    if sets <= out.len() {
-        strategy::put_strategy(game, pair.header.sets, player, moves, out);
-        return VerdictAnswer::Deviation {
-            player: player + 1,
-            gain,
-            base: base(pair),
-            sets: sets as u64,
-        };
+    let count = strategy::set_count(game, sets, player);
+    let room = checks::has_room(count, out.len());
+    let Checked::Fine = room else {
+        return VerdictAnswer::Refused(checks::number(room));
+    };
+    strategy::put_strategy(game, sets, player, moves, out);
+    VerdictAnswer::Deviation {
+        player: player + 1,
+        gain,
+        base,
+        sets: count as u64,
     }
-    VerdictAnswer::Refused(18)
 }
 
-// The verdict, with the moves of the strategy that is shown in the buffer: what is answered and left there, and demand 3 for both.
+// The verdict, with the moves of the strategy that is shown in the buffer; the second clause is demand 3.
 pub fn verdict(game: &[u8], plan: &[u8], moves: &mut [u64]) -> VerdictAnswer
-    ensures { λ r. ⌜ (r ≡ verdictAnswer (verdictRefusal (now (game .entry)) (now (plan .entry)) (length (now (moves .entry)))) (now (game .entry)) (now (plan .entry))) × (now (moves .exit) ≡ afterCall (verdictRefusal (now (game .entry)) (now (plan .entry)) (length (now (moves .entry)))) (shownIn (now (game .entry)) (now (plan .entry))) (now (moves .entry))) ⌝ }
-    ensures { λ r. ⌜ Demanded (verdictRefusal (now (game .entry)) (now (plan .entry)) (length (now (moves .entry)))) (now (game .entry)) (now (plan .entry)) r (now (moves .exit)) ⌝ }
+    ensures { λ r. ⌜ outcome (verdictAnswered r) (now (moves .exit), tt) ≡ verdict (now (game .entry)) (now (plan .entry)) (now (moves .entry)) ⌝ }
+    ensures { λ r. ⌜ Demand3Met (now (game .entry)) (now (plan .entry)) (now (moves .entry)) (outcome (verdictAnswered r) (now (moves .exit), tt)) ⌝ }
 {
     let mut moves1 = [0usize; 4095];
     let mut moves2 = [0usize; 4095];
@@ -80,12 +86,14 @@ pub fn verdict(game: &[u8], plan: &[u8], moves: &mut [u64]) -> VerdictAnswer
     let PairEvaluated::Evaluated { pair, values } = evaluated else {
         return VerdictAnswer::Refused(pairs::refusal(evaluated));
     };
+    let sets = pair.header.sets;
+    let base = base(pair);
     let judged = judge(values, pair.denominators);
     let Verdict::Deviation { player, gain } = judged else {
-        return VerdictAnswer::Accepted { base: base(pair) };
+        return VerdictAnswer::Accepted { base };
     };
     if player == 1 {
-        return show(game, pair, 0, gain, &moves1, moves);
+        return show(game, sets, 0, gain, base, &moves1, moves);
     }
-    show(game, pair, 1, gain, &moves2, moves)
+    show(game, sets, 1, gain, base, &moves2, moves)
 }

@@ -1,6 +1,7 @@
 -- The game writer: its file as a header, set entries and node records, and what it answers.
 use Prim.Native.Nat.{ℕ, _+_, _*_}
 use mathlib.Core.Path.{_≡_, sym, _∙_}
+use mathlib.Core.Bool.{Bool, true}
 use mathlib.Core.List.{List, _++_}
 use native.Mathlib.Omega.{arith}
 use lib.Dec.{leb}
@@ -11,16 +12,20 @@ use Rattle.algebra.proofs.Arrays.{placed-twice}
 use Rattle.algebra.proofs.Lists.{joinTo-cong, length-joinTo}
 use Rattle.model.specs.Bits.{bits, packed, pack}
 use Rattle.model.specs.Writing.{GameFields, setCount, nodeCount, setBits, nodeBits, headerBits, gameBytes, gameFieldsFit}
-use Rattle.model.specs.Calls.{afterCall, gameWriterChecks}
+use Rattle.model.specs.Rules.{FieldsFit}
+use Rattle.model.specs.Call.{outcome}
+use Rattle.model.specs.calls.WriteGame.{rows, call, writeGame}
 use Rattle.model.proofs.Bits.{length-bits, length-packed}
 use Rattle.model.proofs.GameTrips.{length-game}
 use Rattle.model.proofs.Packing.{pack-whole, pack-append}
-use Rattle.writers.specs.declared.Checked.{Checked}
-use Rattle.writers.specs.declared.Checked.the-variants.{Fine, Broken}
+use Rattle.checks.specs.declared.Checked.{Checked}
+use Rattle.checks.specs.declared.Checked.the-variants.{Fine, Broken}
+use Rattle.checks.specs.Checked.{checkedOf, numberOf}
+use Rattle.checks.proofs.Chains.{fine-holds}
 use Rattle.writers.specs.declared.WriteAnswer.{WriteAnswer}
 use Rattle.writers.specs.declared.WriteAnswer.the-variants.{Written, Refused}
-use Rattle.writers.specs.Answers.{checkedOf, writeAnswer}
-use Rattle.writers.specs.GameWriter.{setLists, gameWriterRefusal}
+use Rattle.writers.specs.Answers.{writeAnswered}
+use Rattle.writers.specs.GameWriter.{setLists}
 use Rattle.writers.proofs.Given.{nodePart}
 use Rattle.writers.proofs.Puttings.{byte-count}
 use Rattle.writers.proofs.Refusals.{misfit, short, written}
@@ -67,13 +72,8 @@ module _ (t : GameFields) where
 
 module _ (t : GameFields) (out : List ℕ) where
   -- the answer, and the lent bytes afterwards
-  abbrev pub Result : WriteAnswer → List ℕ → Type 0
-  Result r after = (r ≡ writeAnswer (gameWriterRefusal t (length out)) (length (gameBytes t))) × (after ≡ afterCall (gameWriterRefusal t (length out)) (gameBytes t) out)
-
-  -- fields that do not fit
-  pub game-misfit : {a : Checked} → a ≡ checkedOf (gameFieldsFit t) → a ≡ Broken → Result (Refused 17) out
-  unfolding gameWriterChecks
-  game-misfit e f = misfit gameFieldsFit gameBytes t out e f
+  abbrev pub Leaves : WriteAnswer → List ℕ → Type 0
+  Leaves r after = outcome (writeAnswered r) (after, tt) ≡ writeGame t out
 
   -- how long the file is, as it is measured
   abbrev size : ℕ
@@ -83,16 +83,23 @@ module _ (t : GameFields) (out : List ℕ) where
   unfolding setCount nodeCount
   size-is = sym (length-game t)
 
-  module _ {a b : Checked} (ok : a ≡ checkedOf (gameFieldsFit t)) (fine : a ≡ Fine) (room : b ≡ checkedOf (leb size (length out))) where
-    room-is : b ≡ checkedOf (leb (length (gameBytes t)) (length out))
-    room-is = rw (← size-is) room
+  module _ {x : Bool} {a : Checked} (tested : x ≡ gameFieldsFit t) (checked : a ≡ checkedOf 17 x) where
+    -- fields that do not fit
+    pub game-misfit : {n m : ℕ} → a ≡ Broken n → m ≡ numberOf a → Leaves (Refused m) out
+    unfolding call rows
+    game-misfit f g = misfit gameFieldsFit (λ t. ¬ FieldsFit t) gameBytes t out tested checked f g
 
-    -- a buffer too short
-    pub game-short : b ≡ Broken → Result (Refused 18) out
-    unfolding gameWriterChecks
-    game-short f = short gameFieldsFit gameBytes t out ok fine room-is f
+    -- fields that fit
+    pub game-fits : a ≡ Fine → gameFieldsFit t ≡ true
+    game-fits f = sym tested ∙ fine-holds 17 x checked f
 
-    -- all bytes written
-    pub game-written : b ≡ Fine → {after : List ℕ} → after ≡ placed 0 (gameBytes t) out → Result (Written size) after
-    unfolding gameWriterChecks
-    game-written f all = written gameFieldsFit gameBytes t out ok fine room-is f size-is all
+    module _ {b : Checked} (fine : a ≡ Fine) (room : b ≡ checkedOf 18 (leb size (length out))) where
+      -- a buffer too short
+      pub game-short : {k m : ℕ} → b ≡ Broken k → m ≡ numberOf b → Leaves (Refused m) out
+      unfolding call rows
+      game-short f g = short gameFieldsFit (λ t. ¬ FieldsFit t) gameBytes t out tested checked fine size-is room f g
+
+      -- all bytes written
+      pub game-written : b ≡ Fine → {after : List ℕ} → after ≡ placed 0 (gameBytes t) out → Leaves (Written size) after
+      unfolding call rows
+      game-written f all = written gameFieldsFit (λ t. ¬ FieldsFit t) gameBytes t out tested checked fine size-is room f all

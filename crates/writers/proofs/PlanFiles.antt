@@ -7,22 +7,24 @@ use native.Mathlib.Omega.{arith}
 use lib.ListN.{length, length-append}
 use lib.Dec.{ltb, leb}
 use Rattle.algebra.specs.Arrays.{placed}
-use Rattle.algebra.proofs.Tests.{true→T}
 use Rattle.algebra.proofs.Arrays.{placed-twice}
 use Rattle.model.specs.Bits.{bits, runBits, packed, pack}
-use Rattle.model.specs.Writing.{planBytes, allFit, planFieldsFit}
-use Rattle.model.specs.Calls.{PlanFields, afterCall, planWriterChecks}
+use Rattle.model.specs.Writing.{PlanFields, planFields, planBytes, allFit, planFieldsFit}
+use Rattle.model.specs.Rules.{PlanFieldsFit}
+use Rattle.model.specs.Call.{outcome}
+use Rattle.model.specs.calls.WritePlan.{rows, bytesOf, call, writePlan}
 use Rattle.model.proofs.Bits.{length-bits, length-packed}
 use Rattle.model.proofs.Packing.{pack-whole, pack-append}
 use Rattle.model.proofs.Fitting.{plan-fields-iff}
 use Rattle.model.proofs.PlanTrips.{length-plan}
-use Rattle.writers.specs.declared.Checked.{Checked}
-use Rattle.writers.specs.declared.Checked.the-variants.{Fine, Broken}
+use Rattle.checks.specs.declared.Checked.{Checked}
+use Rattle.checks.specs.declared.Checked.the-variants.{Fine, Broken}
+use Rattle.checks.specs.Checked.{checkedOf, numberOf}
+use Rattle.checks.proofs.Chains.{fine-test}
 use Rattle.writers.specs.declared.WriteAnswer.{WriteAnswer}
 use Rattle.writers.specs.declared.WriteAnswer.the-variants.{Written, Refused}
-use Rattle.writers.specs.Answers.{checkedOf, writeAnswer}
-use Rattle.writers.specs.PlanWriter.{planWriterRefusal}
-use Rattle.writers.proofs.Refusals.{is-fine, misfit, short, written}
+use Rattle.writers.specs.Answers.{writeAnswered}
+use Rattle.writers.proofs.Refusals.{misfit, short, written}
 
 -- the bits of the header
 abbrev headed : (d1 d2 : ℕ) → List ℕ
@@ -52,42 +54,32 @@ module _ (d1 d2 : ℕ) (weights : List ℕ) where
       rw (g, f, twice, plan-parts)
 
   -- numbers that passed the test fit their fields
-  pub plan-fits : {a : Checked} → a ≡ checkedOf (planFieldsFit d1 d2 weights) → a ≡ Fine → (d1 < 2 ^ 12) × (d2 < 2 ^ 12)
-  plan-fits e f =
-      let fit = plan-fields-iff d1 d2 weights .holds (true→T (planFieldsFit d1 d2 weights) (is-fine (planFieldsFit d1 d2 weights) e f)) in
+  pub plan-fits : {x : Bool} {a : Checked} → x ≡ planFieldsFit d1 d2 weights → a ≡ checkedOf 17 x → a ≡ Fine → (d1 < 2 ^ 12) × (d2 < 2 ^ 12)
+  plan-fits {x} e f g =
+      let fit = plan-fields-iff d1 d2 weights .holds (rw (← e) (fine-test 17 x f g)) in
       (fit .0, fit .1 .0)
-
--- what is given to the plan writer
-abbrev fieldsGiven : (d1 d2 : ℕ) → (weights : List ℕ) → PlanFields
-fieldsGiven d1 d2 weights = record { d1 = d1; d2 = d2; weights = weights }
-
-abbrev fieldsFit : PlanFields → Bool
-fieldsFit t = planFieldsFit (t .d1) (t .d2) (t .weights)
-
-abbrev fileBytes : PlanFields → List ℕ
-fileBytes t = planBytes (t .d1) (t .d2) (t .weights)
 
 module _ (d1 d2 : ℕ) (weights out : List ℕ) where
   -- the answer, and the lent bytes afterwards
-  abbrev pub Result : WriteAnswer → List ℕ → Type 0
-  Result r after = (r ≡ writeAnswer (planWriterRefusal d1 d2 weights (length out)) (length (planBytes d1 d2 weights))) × (after ≡ afterCall (planWriterRefusal d1 d2 weights (length out)) (planBytes d1 d2 weights) out)
+  abbrev pub Leaves : WriteAnswer → List ℕ → Type 0
+  Leaves r after = outcome (writeAnswered r) (after, tt) ≡ writePlan d1 d2 weights out
 
-  -- a number that does not fit
-  pub plan-misfit : {a : Checked} → a ≡ checkedOf (planFieldsFit d1 d2 weights) → a ≡ Broken → Result (Refused 17) out
-  unfolding planWriterChecks
-  plan-misfit e f = misfit fieldsFit fileBytes (fieldsGiven d1 d2 weights) out e f
+  abbrev fit : PlanFields → Bool
+  fit t = planFieldsFit (t .d1) (t .d2) (t .weights)
 
-  module _ {a b : Checked} (ok : a ≡ checkedOf (planFieldsFit d1 d2 weights)) (fine : a ≡ Fine) (room : b ≡ checkedOf (leb (4 + (12 * length weights + 7) / 8) (length out))) where
-    -- the size that was measured is the file's
-    room-is : b ≡ checkedOf (leb (length (planBytes d1 d2 weights)) (length out))
-    room-is = rw (length-plan d1 d2 weights) room
+  module _ {x : Bool} {a : Checked} (tested : x ≡ planFieldsFit d1 d2 weights) (checked : a ≡ checkedOf 17 x) where
+    -- a number that does not fit
+    pub plan-misfit : {n m : ℕ} → a ≡ Broken n → m ≡ numberOf a → Leaves (Refused m) out
+    unfolding call rows
+    plan-misfit f g = misfit fit (λ t. ¬ PlanFieldsFit t) bytesOf (planFields d1 d2 weights) out tested checked f g
 
-    -- a buffer too short
-    pub plan-short : b ≡ Broken → Result (Refused 18) out
-    unfolding planWriterChecks
-    plan-short f = short fieldsFit fileBytes (fieldsGiven d1 d2 weights) out ok fine room-is f
+    module _ {b : Checked} (fine : a ≡ Fine) (room : b ≡ checkedOf 18 (leb (4 + (12 * length weights + 7) / 8) (length out))) where
+      -- a buffer too short
+      pub plan-short : {k m : ℕ} → b ≡ Broken k → m ≡ numberOf b → Leaves (Refused m) out
+      unfolding call rows
+      plan-short f g = short fit (λ t. ¬ PlanFieldsFit t) bytesOf (planFields d1 d2 weights) out tested checked fine (sym (length-plan d1 d2 weights)) room f g
 
-    -- all bytes written
-    pub plan-written : b ≡ Fine → {after : List ℕ} → after ≡ placed 0 (planBytes d1 d2 weights) out → Result (Written (4 + (12 * length weights + 7) / 8)) after
-    unfolding planWriterChecks
-    plan-written f all = written fieldsFit fileBytes (fieldsGiven d1 d2 weights) out ok fine room-is f (sym (length-plan d1 d2 weights)) all
+      -- all bytes written
+      pub plan-written : b ≡ Fine → {after : List ℕ} → after ≡ placed 0 (planBytes d1 d2 weights) out → Leaves (Written (4 + (12 * length weights + 7) / 8)) after
+      unfolding call rows
+      plan-written f all = written fit (λ t. ¬ PlanFieldsFit t) bytesOf (planFields d1 d2 weights) out tested checked fine (sym (length-plan d1 d2 weights)) room f all

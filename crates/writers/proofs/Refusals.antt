@@ -1,59 +1,57 @@
--- A writer tests 17, then 18: its answer and the lent bytes afterwards, in each case.
+-- A writer tests 17, then 18: its outcome in each case.
 use Prim.Native.Nat.{ℕ, _≤_}
-use mathlib.Core.Path.{_≡_, refl, _∙_}
-use mathlib.Core.Bool.{Bool, true, false}
+use mathlib.Core.Path.{_≡_, sym, _∙_}
+use mathlib.Core.Bool.{Bool, and-true}
 use mathlib.Core.List.{List, [], _∷_}
-use native.Mathlib.Omega.{arith}
 use lib.ListN.{length}
 use lib.Dec.{leb, leb→le}
 use Rattle.algebra.specs.Arrays.{placed}
 use Rattle.algebra.proofs.Arrays.{placed-first}
-use Rattle.model.specs.Refusals.{firstFailing, along}
-use Rattle.model.specs.Calls.{withRoom, afterCall}
-use Rattle.writers.specs.declared.Checked.{Checked}
-use Rattle.writers.specs.declared.Checked.the-variants.{Fine, Broken}
+use Rattle.model.specs.Rows.{row, refusal}
+use Rattle.model.specs.Call.{longEnough, afterCall, Call, outcome, run}
+use Rattle.checks.specs.declared.Checked.{Checked}
+use Rattle.checks.specs.declared.Checked.the-variants.{Fine, Broken}
+use Rattle.checks.specs.Checked.{checkedOf, numberOf}
+use Rattle.checks.proofs.Chains.{begin, passes, stops, ends, fine-holds, fine-test, call-refuses, call-short, call-gives}
 use Rattle.writers.specs.declared.WriteAnswer.{WriteAnswer}
 use Rattle.writers.specs.declared.WriteAnswer.the-variants.{Written, Refused}
-use Rattle.writers.specs.Answers.{checkedOf, writeAnswer}
-
--- a check that is fine has passed
-pub is-fine : (b : Bool) {a : Checked} → a ≡ checkedOf b → a ≡ Fine → b ≡ true
-is-fine true e f = refl
-is-fine false e f = let z : _≡_ {A = ℕ} 0 1 = cc in absurd (omega arith)
-
--- one that is broken has not
-pub is-broken : (b : Bool) {a : Checked} → a ≡ checkedOf b → a ≡ Broken → b ≡ false
-is-broken true e f = let z : _≡_ {A = ℕ} 0 1 = cc in absurd (omega arith)
-is-broken false e f = refl
+use Rattle.writers.specs.Answers.{writeAnswered}
 
 -- a result that has room is no longer than its buffer
-pub has-room : {n room : ℕ} {a : Checked} → a ≡ checkedOf (leb n room) → a ≡ Fine → n ≤ room
-has-room {n} {room} e f = leb→le n room (rw (is-fine (leb n room) e f) tt)
+pub has-room : {n room : ℕ} {a : Checked} → a ≡ checkedOf 18 (leb n room) → a ≡ Fine → n ≤ room
+has-room {n} {room} e f = leb→le n room (fine-test 18 (leb n room) e f)
 
-module _ {A : Type 0} (fits : A → Bool) (bytes : A → List ℕ) (t : A) (out : List ℕ) where
-  -- the refusal: 0 is none
-  abbrev pub refusal : ℕ
-  refusal = firstFailing (withRoom ((17, fits) ∷ []) (λ t. length (bytes t) ∷ [])) (record { input = t; rooms = length out ∷ [] })
+-- A writer: it tests whether what is given fits, and puts the file's bytes.
+module _ {A : Type 0} (fits : A → Bool) (Misfit : A → Type 0) (bytes : A → List ℕ) (t : A) (out : List ℕ) where
+  abbrev pub writer : Call A (ℕ ∷ []) ℕ
+  writer = record { rows = row 17 fits Misfit ∷ []; result = λ t. length (bytes t); written = λ t. (bytes t, tt) }
 
   -- the answer, and the lent bytes afterwards
-  abbrev pub Result : WriteAnswer → List ℕ → Type 0
-  Result r after = (r ≡ writeAnswer refusal (length (bytes t))) × (after ≡ afterCall refusal (bytes t) out)
+  abbrev pub Leaves : WriteAnswer → List ℕ → Type 0
+  Leaves r after = outcome (writeAnswered r) (after, tt) ≡ run writer t (out, tt)
 
-  -- a number that does not fit
-  pub misfit : {a : Checked} → a ≡ checkedOf (fits t) → a ≡ Broken → Result (Refused 17) out
-  unfolding firstFailing along withRoom afterCall
-  misfit e f = let no = is-broken (fits t) e f in (rw no, rw no)
+  module _ {x : Bool} {a : Checked} (tested : x ≡ fits t) (checked : a ≡ checkedOf 17 x) where
+    -- 17 as it is tested
+    fit : a ≡ checkedOf 17 (fits t)
+    fit = checked ∙ rw tested
 
-  module _ {a b : Checked} (ok : a ≡ checkedOf (fits t)) (fine : a ≡ Fine) (room : b ≡ checkedOf (leb (length (bytes t)) (length out))) where
-    -- a buffer too short
-    pub short : b ≡ Broken → Result (Refused 18) out
-    unfolding firstFailing along withRoom afterCall
-    short f = let yes = is-fine (fits t) ok fine in let no = is-broken (leb (length (bytes t)) (length out)) room f in (rw (yes, no), rw (yes, no))
+    -- something does not fit
+    pub misfit : {n m : ℕ} → a ≡ Broken n → m ≡ numberOf a → Leaves (Refused m) out
+    misfit f g = sym (call-refuses writer tt t (out, tt) (stops (begin _ t) fit f g))
 
-    -- all bytes written
-    pub written : b ≡ Fine → {n : ℕ} {after : List ℕ} → n ≡ length (bytes t) → after ≡ placed 0 (bytes t) out → Result (Written n) after
-    unfolding firstFailing along withRoom afterCall
-    written f {n} {after} size all =
-        let yes = is-fine (fits t) ok fine in
-        let long = is-fine (leb (length (bytes t)) (length out)) room f in
-        (rw (yes, long, size), rw (yes, long) (all ∙ placed-first (bytes t) out))
+    module _ {b : Checked} {n : ℕ} (fine : a ≡ Fine) (size : n ≡ length (bytes t)) (room : b ≡ checkedOf 18 (leb n (length out))) where
+      none : refusal (writer .rows) t ≡ 0
+      none = ends (passes (begin _ t) fit fine)
+
+      -- 18 as it is tested: the size that is measured is the file's
+      measured : b ≡ checkedOf 18 (longEnough (length (bytes t) ∷ []) (length out ∷ []))
+      measured = room ∙ rw (size, and-true (leb (length (bytes t)) (length out)))
+
+      -- a buffer too short
+      pub short : {k m : ℕ} → b ≡ Broken k → m ≡ numberOf b → Leaves (Refused m) out
+      short f g = sym (call-short writer tt t (out, tt) none measured f g)
+
+      -- all bytes written
+      pub written : b ≡ Fine → {after : List ℕ} → after ≡ placed 0 (bytes t) out → Leaves (Written n) after
+      unfolding afterCall
+      written f all = rw (size, all, placed-first (bytes t) out) (sym (call-gives writer tt t (out, tt) none (fine-holds 18 _ measured f)))

@@ -5,14 +5,8 @@ use mathlib.Core.List.{List, [], _∷_}
 use lib.Dec.{T}
 use lib.IntN.{ℤ}
 use lib.ListN.{length}
-use Rattle.model.specs.Refusals.{firstFailing}
 use Rattle.model.specs.Writing.{GameFields, gameFields, entry, entryZ, fitsSigned}
-use Rattle.model.specs.Calls.{gameWriterChecks}
 use Rattle.writers.specs.declared.records.NodeRecord.{NodeRecord}
-
--- the refusal of what is given, with a buffer of so many bytes: 0 is none
-abbrev pub gameWriterRefusal : GameFields → (room : ℕ) → ℕ
-gameWriterRefusal t room = firstFailing gameWriterChecks (record { input = t; rooms = room ∷ [] })
 
 -- D0 and the sets' lists alone
 abbrev pub setLists : (rootWeight : ℕ) → (setPlayers setMoves : List ℕ) → GameFields

@@ -6,9 +6,7 @@ ghost use lib.Dec.{eqb, ltb};
 ghost use lib.ListN.{length};
 ghost use Rattle.algebra.specs.Bounded.{allTo};
 ghost use Rattle.model.specs.Writing.{entry, allFit, allFitSigned, kindFits, sideBySide, numbersFit, gameFieldsFit, gameFields};
-ghost use Rattle.writers.specs.Answers.{checkedOf};
 ghost use Rattle.writers.specs.GameWriter.{setLists, nodeLists, Beside};
-use super::Checked;
 use super::fit;
 use super::records::Header;
 use super::records::NodeRecord;
@@ -167,8 +165,8 @@ fn nodes_fit(
     chance_moves: &[u64],
     payoffs1: &[i64],
     payoffs2: &[i64],
-) -> Checked
-    ensures { λ r. ⌜ r ≡ checkedOf (gameFieldsFit (nodeLists (now (kinds .entry)) (now (parents .entry)) (now (moves .entry)) (now (weights .entry)) (now («node_sets» .entry)) (now («chance_moves» .entry)) (now (payoffs1 .entry)) (now (payoffs2 .entry)))) ⌝ }
+) -> bool
+    ensures { λ r. ⌜ r ≡ gameFieldsFit (nodeLists (now (kinds .entry)) (now (parents .entry)) (now (moves .entry)) (now (weights .entry)) (now («node_sets» .entry)) (now («chance_moves» .entry)) (now (payoffs1 .entry)) (now (payoffs2 .entry))) ⌝ }
 {
     if nodes_beside(
         kinds,
@@ -180,7 +178,7 @@ fn nodes_fit(
         payoffs1,
         payoffs2,
     ) {
-        if beside_fit(
+        return beside_fit(
             kinds,
             parents,
             moves,
@@ -189,14 +187,12 @@ fn nodes_fit(
             chance_moves,
             payoffs1,
             payoffs2,
-        ) {
-            return Checked::Fine;
-        }
+        );
     }
-    Checked::Broken
+    false
 }
 
-// Check 17.
+// Whether all fields fit.
 pub fn fields_fit(
     root_weight: u64,
     set_players: &[u64],
@@ -209,8 +205,8 @@ pub fn fields_fit(
     chance_moves: &[u64],
     payoffs1: &[i64],
     payoffs2: &[i64],
-) -> Checked
-    ensures { λ r. ⌜ r ≡ checkedOf (gameFieldsFit (gameFields «root_weight» (now («set_players» .entry)) (now («set_moves» .entry)) (now (kinds .entry)) (now (parents .entry)) (now (moves .entry)) (now (weights .entry)) (now («node_sets» .entry)) (now («chance_moves» .entry)) (now (payoffs1 .entry)) (now (payoffs2 .entry)))) ⌝ }
+) -> bool
+    ensures { λ r. ⌜ r ≡ gameFieldsFit (gameFields «root_weight» (now («set_players» .entry)) (now («set_moves» .entry)) (now (kinds .entry)) (now (parents .entry)) (now (moves .entry)) (now (weights .entry)) (now («node_sets» .entry)) (now («chance_moves» .entry)) (now (payoffs1 .entry)) (now (payoffs2 .entry))) ⌝ }
 {
     if sets_fit(root_weight, set_players, set_moves) {
         return nodes_fit(
@@ -224,5 +220,5 @@ pub fn fields_fit(
             payoffs2,
         );
     }
-    Checked::Broken
+    false
 }

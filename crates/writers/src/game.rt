@@ -7,15 +7,16 @@ ghost use Rattle.algebra.specs.Arrays.{placed};
 ghost use Rattle.algebra.specs.Bounded.{joinTo};
 ghost use Rattle.model.specs.Bits.{pack};
 ghost use Rattle.model.specs.Writing.{setBits, nodeBits, gameBytes, gameFieldsFit, gameFields};
-ghost use Rattle.model.specs.Calls.{afterCall};
-ghost use Rattle.writers.specs.Answers.{writeAnswer};
-ghost use Rattle.writers.specs.GameWriter.{setLists, nodeLists, SetsFit, NodesFit, gameWriterRefusal};
-use super::Checked;
+ghost use Rattle.model.specs.Call.{outcome};
+ghost use Rattle.model.specs.calls.WriteGame.{writeGame};
+ghost use Rattle.writers.specs.Answers.{writeAnswered};
+ghost use Rattle.writers.specs.GameWriter.{setLists, nodeLists, SetsFit, NodesFit};
 use super::WriteAnswer;
 use super::fields;
 use super::records::Header;
 use super::records::NodeRecord;
 use super::records::SetEntry;
+use checks::Checked;
 
 // The set entries, from byte 5 on.
 fn put_sets(set_players: &[u64], set_moves: &[u64], out: &mut [u8])
@@ -122,9 +123,9 @@ pub fn write(
     payoffs2: &[i64],
     out: &mut [u8],
 ) -> WriteAnswer
-    ensures { λ r. ⌜ (r ≡ writeAnswer (gameWriterRefusal (gameFields «root_weight» (now («set_players» .entry)) (now («set_moves» .entry)) (now (kinds .entry)) (now (parents .entry)) (now (moves .entry)) (now (weights .entry)) (now («node_sets» .entry)) (now («chance_moves» .entry)) (now (payoffs1 .entry)) (now (payoffs2 .entry))) (length (now (out .entry)))) (length (gameBytes (gameFields «root_weight» (now («set_players» .entry)) (now («set_moves» .entry)) (now (kinds .entry)) (now (parents .entry)) (now (moves .entry)) (now (weights .entry)) (now («node_sets» .entry)) (now («chance_moves» .entry)) (now (payoffs1 .entry)) (now (payoffs2 .entry)))))) × (now (out .exit) ≡ afterCall (gameWriterRefusal (gameFields «root_weight» (now («set_players» .entry)) (now («set_moves» .entry)) (now (kinds .entry)) (now (parents .entry)) (now (moves .entry)) (now (weights .entry)) (now («node_sets» .entry)) (now («chance_moves» .entry)) (now (payoffs1 .entry)) (now (payoffs2 .entry))) (length (now (out .entry)))) (gameBytes (gameFields «root_weight» (now («set_players» .entry)) (now («set_moves» .entry)) (now (kinds .entry)) (now (parents .entry)) (now (moves .entry)) (now (weights .entry)) (now («node_sets» .entry)) (now («chance_moves» .entry)) (now (payoffs1 .entry)) (now (payoffs2 .entry)))) (now (out .entry))) ⌝ }
+    ensures { λ r. ⌜ outcome (writeAnswered r) (now (out .exit), tt) ≡ writeGame (gameFields «root_weight» (now («set_players» .entry)) (now («set_moves» .entry)) (now (kinds .entry)) (now (parents .entry)) (now (moves .entry)) (now (weights .entry)) (now («node_sets» .entry)) (now («chance_moves» .entry)) (now (payoffs1 .entry)) (now (payoffs2 .entry))) (now (out .entry)) ⌝ }
 {
-    let fit = fields::fields_fit(
+    let ok = fields::fields_fit(
         root_weight,
         set_players,
         set_moves,
@@ -137,13 +138,14 @@ pub fn write(
         payoffs1,
         payoffs2,
     );
+    let fit = checks::check(17, ok);
     let Checked::Fine = fit else {
-        return WriteAnswer::Refused(17);
+        return WriteAnswer::Refused(checks::number(fit));
     };
     let size = 5 + set_players.len() + 8 * kinds.len();
-    let room = super::has_room(size, out.len());
+    let room = checks::has_room(size, out.len());
     let Checked::Fine = room else {
-        return WriteAnswer::Refused(18);
+        return WriteAnswer::Refused(checks::number(room));
     };
     put_game(
         root_weight,

@@ -8,12 +8,12 @@ ghost use lib.Dec.{ltb};
 ghost use Rattle.algebra.specs.Arrays.{placed};
 ghost use Rattle.model.specs.Bits.{bits, packed};
 ghost use Rattle.model.specs.Writing.{planBytes, planFieldsFit};
-ghost use Rattle.model.specs.Calls.{afterCall};
-ghost use Rattle.writers.specs.Answers.{checkedOf, writeAnswer};
-ghost use Rattle.writers.specs.PlanWriter.{planWriterRefusal};
-use super::Checked;
+ghost use Rattle.model.specs.Call.{outcome};
+ghost use Rattle.model.specs.calls.WritePlan.{writePlan};
+ghost use Rattle.writers.specs.Answers.{writeAnswered};
 use super::WriteAnswer;
 use super::fit;
+use checks::Checked;
 
 // The header of a plan file: the denominators D1 and D2.
 struct Header {
@@ -47,14 +47,13 @@ fn fits_and(denominator: u64, later: bool) -> bool
     }
 }
 
-// Check 17.
-fn numbers_fit(d1: u64, d2: u64, weights: &[u64]) -> Checked
-    ensures { λ r. ⌜ r ≡ checkedOf (planFieldsFit d1 d2 (now (weights .entry))) ⌝ }
+// Whether D1, D2 and all weights fit.
+fn numbers_fit(d1: u64, d2: u64, weights: &[u64]) -> bool
+    ensures { λ r. ⌜ r ≡ planFieldsFit d1 d2 (now (weights .entry)) ⌝ }
 {
     let ok = fit::all_fit(weights, 12);
     let ok = fits_and(d2, ok);
-    let ok = fits_and(d1, ok);
-    if ok { Checked::Fine } else { Checked::Broken }
+    fits_and(d1, ok)
 }
 
 // The header, and the weights after it.
@@ -68,16 +67,16 @@ fn fill(header: Header, weights: &[u64], out: &mut [u8])
 
 // Writes a plan file: D1, D2 and all weights, player 1's first.
 pub fn write(d1: u64, d2: u64, weights: &[u64], out: &mut [u8]) -> WriteAnswer
-    ensures { λ r. ⌜ (r ≡ writeAnswer (planWriterRefusal d1 d2 (now (weights .entry)) (length (now (out .entry)))) (length (planBytes d1 d2 (now (weights .entry))))) × (now (out .exit) ≡ afterCall (planWriterRefusal d1 d2 (now (weights .entry)) (length (now (out .entry)))) (planBytes d1 d2 (now (weights .entry))) (now (out .entry))) ⌝ }
+    ensures { λ r. ⌜ outcome (writeAnswered r) (now (out .exit), tt) ≡ writePlan d1 d2 (now (weights .entry)) (now (out .entry)) ⌝ }
 {
-    let fit = numbers_fit(d1, d2, weights);
+    let fit = checks::check(17, numbers_fit(d1, d2, weights));
     let Checked::Fine = fit else {
-        return WriteAnswer::Refused(17);
+        return WriteAnswer::Refused(checks::number(fit));
     };
     let size = 4 + (12 * weights.len() + 7) / 8;
-    let room = super::has_room(size, out.len());
+    let room = checks::has_room(size, out.len());
     let Checked::Fine = room else {
-        return WriteAnswer::Refused(18);
+        return WriteAnswer::Refused(checks::number(room));
     };
     fill(Header { d1, d2 }, weights, out);
     WriteAnswer::Written(size)

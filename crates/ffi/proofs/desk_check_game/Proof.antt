@@ -1,18 +1,16 @@
 -- An accepted game's counts go to the references; a refusal leaves them as they were.
-use Rattle.model.specs.GameChecks.{gameRefusal}
-use Rattle.ffi.proofs.Answered.{game-accepted, game-refused}
+use mathlib.Core.Path.{refl}
+use Rattle.lookups.specs.Answers.{gameAnswered}
+use Rattle.ffi.specs.Numbers.{same}
+use Rattle.ffi.proofs.Exports.{exports-answer}
 use Rattle.ffi.proofs.desk_check_game.Statement.{statement}
 use Rattle.ffi.proofs.desk_check_game.Tie as tie
 
-sends-on : tie.Need-returns
-sends-on c =
-    let a = c .before .before .before .before .before .args in
-    game-accepted (a .game .now) (a .nodes .now) (a .sets .now) (a .root-weight .now) (gameRefusal (a .game .now)) (c .before .before .before .check-game .ensures) (c .before .answer .given .1)
+gives : tie.Need-returns
+gives c = exports-answer gameAnswered same _ (c .before .before .before .check-game .ensures) (c .before .answer .given .1) refl refl
 
-sends-back : tie.Need-returns-2
-sends-back c =
-    let a = c .before .before .before .before .before .args in
-    game-refused (a .game .now) (a .nodes .now) (a .sets .now) (a .root-weight .now) (gameRefusal (a .game .now)) (c .before .before .before .check-game .ensures) (c .before .answer2 .given .1)
+refuses : tie.Need-returns-2
+refuses c = exports-answer gameAnswered same _ (c .before .before .before .check-game .ensures) (c .before .answer2 .given .1) refl refl
 
 pub desk-check-game-spec : {M : Type 1} → statement M
 desk-check-game-spec =
@@ -21,5 +19,5 @@ desk-check-game-spec =
     (λ c κs. tt)
     (λ c. c .match .keys1)
     (λ c. c .match .keys2)
-    sends-on
-    sends-back)
+    gives
+    refuses)

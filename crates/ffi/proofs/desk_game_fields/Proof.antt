@@ -1,23 +1,16 @@
--- The answer's number is sent on; the buffers are as the entry point leaves them.
-use Rattle.game.specs.Columns.{fieldLists}
-use Rattle.fields.specs.GameFields.{fieldsRefusal}
-use Rattle.ffi.proofs.Answered.{fields-given, fields-refused}
+-- The answer's number is the result; the buffers are as the call leaves them.
+use mathlib.Core.Path.{refl}
+use Rattle.fields.specs.Answers.{fieldsAnswered}
+use Rattle.ffi.specs.Numbers.{none}
+use Rattle.ffi.proofs.Exports.{exports}
 use Rattle.ffi.proofs.desk_game_fields.Statement.{statement}
 use Rattle.ffi.proofs.desk_game_fields.Tie as tie
 
-sends-on : tie.Need-returns
-sends-on c =
-    let a = c .before .before .before .before .before .before .before .before .before .before .before .before .before .before .before .before .before .before .before .before .before .before .before .before .before .before .before .before .before .before .before .before .before .before .before .before .before .before .before .before .args in
-    let buffers = fieldLists (a .set-players .now) (a .set-moves .now) (a .kinds .now) (a .parents .now) (a .moves .now) (a .weights .now) (a .node-sets .now) (a .chance-moves .now) (a .payoffs1 .now) (a .payoffs2 .now) in
-    let e = c .before .before .before .before .before .before .before .before .before .before .before .before .before .before .before .before .before .before .before .before .game-fields .ensures in
-    (fields-given (a .game .now) (fieldsRefusal (a .game .now) buffers) (e .0) (c .enum-told .given .1), e .1)
+gives : tie.Need-returns
+gives c = exports fieldsAnswered none _ (c .before .before .before .before .before .before .before .before .before .before .before .before .before .before .before .before .before .before .before .before .game-fields .ensures) (c .enum-told .given .1) refl refl
 
-sends-back : tie.Need-returns-2
-sends-back c =
-    let a = c .before .before .before .before .before .before .before .before .before .before .before .before .before .before .before .before .before .before .before .before .before .before .before .before .before .before .before .before .before .before .before .before .before .before .before .before .before .before .before .before .before .args in
-    let buffers = fieldLists (a .set-players .now) (a .set-moves .now) (a .kinds .now) (a .parents .now) (a .moves .now) (a .weights .now) (a .node-sets .now) (a .chance-moves .now) (a .payoffs1 .now) (a .payoffs2 .now) in
-    let e = c .before .before .before .before .before .before .before .before .before .before .before .before .before .before .before .before .before .before .before .before .before .game-fields .ensures in
-    (fields-refused (a .game .now) (fieldsRefusal (a .game .now) buffers) (e .0) (c .before .answer .given .1), e .1)
+refuses : tie.Need-returns-2
+refuses c = exports fieldsAnswered none _ (c .before .before .before .before .before .before .before .before .before .before .before .before .before .before .before .before .before .before .before .before .before .game-fields .ensures) (c .before .answer .given .1) refl refl
 
 pub desk-game-fields-spec : {M : Type 1} → statement M
 desk-game-fields-spec =
@@ -36,7 +29,7 @@ desk-game-fields-spec =
     (λ c. c .before .before .before .before .before .before .before .before .before .before .before .before .before .before .before .before .before .before .before .before .game-fields .kept .1 .1 .1 .1 .1 .1 .1 .1 .0)
     (λ c. c .before .before .before .before .before .before .before .before .before .before .before .before .before .before .before .before .before .before .before .before .game-fields .kept .1 .1 .1 .1 .1 .1 .1 .1 .1 .0)
     (λ c. c .before .before .before .before .before .before .before .before .before .before .before .before .before .before .before .before .before .before .before .before .game-fields .kept .1 .1 .1 .1 .1 .1 .1 .1 .1 .1 .0)
-    sends-on
+    gives
     (λ c. c .before .before .before .before .before .before .before .before .before .before .before .before .before .before .before .before .before .before .before .before .before .game-fields .kept .1 .0)
     (λ c. c .before .before .before .before .before .before .before .before .before .before .before .before .before .before .before .before .before .before .before .before .before .game-fields .kept .1 .1 .0)
     (λ c. c .before .before .before .before .before .before .before .before .before .before .before .before .before .before .before .before .before .before .before .before .before .game-fields .kept .1 .1 .1 .0)
@@ -47,4 +40,4 @@ desk-game-fields-spec =
     (λ c. c .before .before .before .before .before .before .before .before .before .before .before .before .before .before .before .before .before .before .before .before .before .game-fields .kept .1 .1 .1 .1 .1 .1 .1 .1 .0)
     (λ c. c .before .before .before .before .before .before .before .before .before .before .before .before .before .before .before .before .before .before .before .before .before .game-fields .kept .1 .1 .1 .1 .1 .1 .1 .1 .1 .0)
     (λ c. c .before .before .before .before .before .before .before .before .before .before .before .before .before .before .before .before .before .before .before .before .before .game-fields .kept .1 .1 .1 .1 .1 .1 .1 .1 .1 .1 .0)
-    sends-back)
+    refuses)

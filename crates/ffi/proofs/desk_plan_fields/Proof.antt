@@ -1,21 +1,16 @@
 -- D1 and D2 go to the references; a refusal leaves them as they were.
-use lib.ListN.{length}
-use Rattle.entry.specs.Plans.{weightsRefusal}
-use Rattle.ffi.proofs.Answered.{weights-given, weights-refused}
+use mathlib.Core.Path.{refl}
+use Rattle.model.specs.calls.PlanFields.{denominatorsIn}
+use Rattle.plans.specs.Answers.{weightsAnswered}
+use Rattle.ffi.proofs.Exports.{exports}
 use Rattle.ffi.proofs.desk_plan_fields.Statement.{statement}
 use Rattle.ffi.proofs.desk_plan_fields.Tie as tie
 
-sends-on : tie.Need-returns
-sends-on c =
-    let a = c .before .before .before .before .before .before .before .before .before .before .args in
-    let e = c .before .before .before .before .before .plan-fields .ensures in
-    weights-given (a .game .now) (a .plan .now) (a .d1 .now) (a .d2 .now) (a .weights .now) (weightsRefusal (a .game .now) (a .plan .now) (length (a .weights .now))) (e .0) (e .1) (c .before .answer .given .1)
+gives : tie.Need-returns
+gives c = exports weightsAnswered denominatorsIn _ (c .before .before .before .before .before .plan-fields .ensures) (c .before .answer .given .1) refl refl
 
-sends-back : tie.Need-returns-2
-sends-back c =
-    let a = c .before .before .before .before .before .before .before .before .before .before .args in
-    let e = c .before .before .before .before .before .plan-fields .ensures in
-    weights-refused (a .game .now) (a .plan .now) (a .d1 .now) (a .d2 .now) (a .weights .now) (weightsRefusal (a .game .now) (a .plan .now) (length (a .weights .now))) (e .0) (e .1) (c .before .answer2 .given .1)
+refuses : tie.Need-returns-2
+refuses c = exports weightsAnswered denominatorsIn _ (c .before .before .before .before .before .plan-fields .ensures) (c .before .answer2 .given .1) refl refl
 
 pub desk-plan-fields-spec : {M : Type 1} → statement M
 desk-plan-fields-spec =
@@ -25,6 +20,6 @@ desk-plan-fields-spec =
     (λ c. c .match .keys1)
     (λ c. c .match .keys2)
     (λ c. c .before .before .before .before .before .plan-fields .kept .1 .1 .0)
-    sends-on
+    gives
     (λ c. c .before .before .before .before .before .plan-fields .kept .1 .1 .0)
-    sends-back)
+    refuses)

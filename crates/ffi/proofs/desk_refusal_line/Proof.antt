@@ -1,22 +1,16 @@
 -- The line's length goes to the reference; a refusal leaves it as it was.
-use lib.ListN.{length}
-use Rattle.model.specs.Report.{refusalLine}
-use Rattle.report.specs.Reports.{refusalLineRefusal}
-use Rattle.ffi.proofs.Answered.{written, not-written}
+use mathlib.Core.Path.{refl}
+use Rattle.writers.specs.Answers.{writeAnswered}
+use Rattle.ffi.specs.Numbers.{same}
+use Rattle.ffi.proofs.Exports.{exports}
 use Rattle.ffi.proofs.desk_refusal_line.Statement.{statement}
 use Rattle.ffi.proofs.desk_refusal_line.Tie as tie
 
-sends-on : tie.Need-returns
-sends-on c =
-    let a = c .before .before .before .before .before .before .before .before .args in
-    let e = c .before .before .before .before .before .refusal-line .ensures in
-    written (refusalLine (a .number)) (a .size .now) (a .out .now) (refusalLineRefusal (a .number) (length (a .out .now))) (e .0) (e .1) (c .before .answer .given .1)
+gives : tie.Need-returns
+gives c = exports writeAnswered same _ (c .before .before .before .before .before .refusal-line .ensures) (c .before .answer .given .1) refl refl
 
-sends-back : tie.Need-returns-2
-sends-back c =
-    let a = c .before .before .before .before .before .before .before .before .args in
-    let e = c .before .before .before .before .before .refusal-line .ensures in
-    not-written (refusalLine (a .number)) (a .size .now) (a .out .now) (refusalLineRefusal (a .number) (length (a .out .now))) (e .0) (e .1) (c .before .answer2 .given .1)
+refuses : tie.Need-returns-2
+refuses c = exports writeAnswered same _ (c .before .before .before .before .before .refusal-line .ensures) (c .before .answer2 .given .1) refl refl
 
 pub desk-refusal-line-spec : {M : Type 1} → statement M
 desk-refusal-line-spec =
@@ -26,6 +20,6 @@ desk-refusal-line-spec =
     (λ c. c .match .keys1)
     (λ c. c .match .keys2)
     (λ c. c .before .before .before .before .before .refusal-line .kept .1 .0)
-    sends-on
+    gives
     (λ c. c .before .before .before .before .before .refusal-line .kept .1 .0)
-    sends-back)
+    refuses)

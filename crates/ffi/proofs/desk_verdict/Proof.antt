@@ -1,27 +1,20 @@
 -- The verdict goes to the references; a refusal leaves them as they were.
+use mathlib.Core.Path.{refl}
 use borrow.Author.Needs.{sfits-of}
 use mir.Syntax.{w64}
 use mir.Facts.{toZ-ofZ}
-use lib.ListN.{length}
-use Rattle.verdict.specs.Verdicts.{verdictRefusal}
-use Rattle.ffi.proofs.Judged.{acceptance-given, deviation-given, refusal-given}
+use Rattle.ffi.proofs.Exports.{exports-verdict}
 use Rattle.ffi.proofs.desk_verdict.Statement.{statement}
 use Rattle.ffi.proofs.desk_verdict.Tie as tie
 
 accepts : tie.Need-returns
-accepts c =
-    let a = c .before .before .before .before .before .before .before .before .before .before .args in
-    acceptance-given (a .game .now) (a .plan .now) (a .player .now) (a .gain .now) (a .base .now) (a .count .now) (a .moves .now) (verdictRefusal (a .game .now) (a .plan .now) (length (a .moves .now))) (c .before .before .before .before .before .verdict .ensures) (c .before .answer .given .1)
+accepts c = exports-verdict _ _ _ _ (c .before .before .before .before .before .verdict .ensures .0) (c .before .answer .given .1) refl refl
 
 shows : tie.Need-returns-2
-shows c =
-    let a = c .before .before .before .before .before .before .before .before .before .before .args in
-    deviation-given (a .game .now) (a .plan .now) (a .player .now) (a .gain .now) (a .base .now) (a .count .now) (a .moves .now) (verdictRefusal (a .game .now) (a .plan .now) (length (a .moves .now))) (c .before .before .before .before .before .verdict .ensures) (c .before .answer2 .given .1) (toZ-ofZ {w = w64} (sfits-of (c .known-told2 .given .1 .0 .1)))
+shows c = exports-verdict _ _ _ _ (c .before .before .before .before .before .verdict .ensures .0) (c .before .answer2 .given .1) refl (rw (toZ-ofZ {w = w64} (sfits-of (c .known-told2 .given .1 .0 .1))))
 
-sends-back : tie.Need-returns-3
-sends-back c =
-    let a = c .before .before .before .before .before .before .before .before .before .before .args in
-    refusal-given (a .game .now) (a .plan .now) (a .player .now) (a .gain .now) (a .base .now) (a .count .now) (a .moves .now) (verdictRefusal (a .game .now) (a .plan .now) (length (a .moves .now))) (c .before .before .before .before .before .verdict .ensures) (c .before .answer3 .given .1)
+refuses : tie.Need-returns-3
+refuses c = exports-verdict _ _ _ _ (c .before .before .before .before .before .verdict .ensures .0) (c .before .answer3 .given .1) refl refl
 
 pub desk-verdict-spec : {M : Type 1} → statement M
 desk-verdict-spec =
@@ -36,4 +29,4 @@ desk-verdict-spec =
     (λ c. c .before .before .before .before .before .verdict .kept .1 .1 .0)
     shows
     (λ c. c .before .before .before .before .before .verdict .kept .1 .1 .0)
-    sends-back)
+    refuses)

@@ -1,24 +1,16 @@
 -- The length goes to the reference; a refusal leaves it as it was.
-use lib.ListN.{length}
-use Rattle.model.specs.Writing.{gameBytes, gameFields}
-use Rattle.writers.specs.GameWriter.{gameWriterRefusal}
-use Rattle.ffi.proofs.Answered.{written, not-written}
+use mathlib.Core.Path.{refl}
+use Rattle.writers.specs.Answers.{writeAnswered}
+use Rattle.ffi.specs.Numbers.{same}
+use Rattle.ffi.proofs.Exports.{exports}
 use Rattle.ffi.proofs.desk_write_game.Statement.{statement}
 use Rattle.ffi.proofs.desk_write_game.Tie as tie
 
-sends-on : tie.Need-returns
-sends-on c =
-    let a = c .before .before .before .before .before .before .before .before .before .before .before .before .before .before .before .before .args in
-    let t = gameFields (a .root-weight) (a .set-players .now) (a .set-moves .now) (a .kinds .now) (a .parents .now) (a .moves .now) (a .weights .now) (a .node-sets .now) (a .chance-moves .now) (a .first-payoffs .now) (a .second-payoffs .now) in
-    let e = c .before .before .before .before .before .write .ensures in
-    written (gameBytes t) (a .size .now) (a .out .now) (gameWriterRefusal t (length (a .out .now))) (e .0) (e .1) (c .before .answer .given .1)
+gives : tie.Need-returns
+gives c = exports writeAnswered same _ (c .before .before .before .before .before .write .ensures) (c .before .answer .given .1) refl refl
 
-sends-back : tie.Need-returns-2
-sends-back c =
-    let a = c .before .before .before .before .before .before .before .before .before .before .before .before .before .before .before .before .args in
-    let t = gameFields (a .root-weight) (a .set-players .now) (a .set-moves .now) (a .kinds .now) (a .parents .now) (a .moves .now) (a .weights .now) (a .node-sets .now) (a .chance-moves .now) (a .first-payoffs .now) (a .second-payoffs .now) in
-    let e = c .before .before .before .before .before .write .ensures in
-    not-written (gameBytes t) (a .size .now) (a .out .now) (gameWriterRefusal t (length (a .out .now))) (e .0) (e .1) (c .before .answer2 .given .1)
+refuses : tie.Need-returns-2
+refuses c = exports writeAnswered same _ (c .before .before .before .before .before .write .ensures) (c .before .answer2 .given .1) refl refl
 
 pub desk-write-game-spec : {M : Type 1} → statement M
 desk-write-game-spec =
@@ -28,6 +20,6 @@ desk-write-game-spec =
     (λ c. c .match .keys1)
     (λ c. c .match .keys2)
     (λ c. c .before .before .before .before .before .write .kept .1 .1 .1 .1 .1 .1 .1 .1 .1 .1 .1 .0)
-    sends-on
+    gives
     (λ c. c .before .before .before .before .before .write .kept .1 .1 .1 .1 .1 .1 .1 .1 .1 .1 .1 .0)
-    sends-back)
+    refuses)

@@ -1,4 +1,4 @@
--- The checks hold one after the other (`Past`), and the first that does not gives its number. Past 15 both arrays have the file's weights, so that 16 is the file's.
+-- The checks hold one after the other (`Left`), and the first that does not gives its number. Past 15 both arrays have the file's weights, so that 16 is the file's.
 use mathlib.Core.Path.{_≡_, refl, sym, ap, _∙_}
 use native.Mathlib.Omega.{arith}
 use borrow.Author.Needs.{needs}
@@ -7,10 +7,15 @@ use Rattle.algebra.proofs.Fillings.{filled}
 use Rattle.model.specs.Game.{gameOf, one, two}
 use Rattle.model.specs.Sequences.{sequenceCount}
 use Rattle.model.specs.Plan.{weightsBefore, planPairOf, pairFits}
-use Rattle.model.specs.PlanChecks.{planHasLength, planWellFormed, planChecks}
-use Rattle.game.specs.Answers.{checkedOf}
+use Rattle.model.specs.PlanChecks.{Files, planHasLength}
+use Rattle.model.specs.Checks.{planRows}
+use Rattle.checks.specs.Checked.{checkedOf}
+use Rattle.checks.proofs.Chains.{Left, begin, passes, stops-at, ends, fine-test}
+use Rattle.game.proofs.Outcomes.{refuses}
+use lib.ListN.{drop}
+use Rattle.plan.specs.declared.PlanAnswer.the-variants.{Refused}
 use Rattle.game.proofs.NodeTests.{few-sets}
-use Rattle.game.proofs.Headers.{header-sets, fine-test, Past, past-none, past-fine, past-stops, past-all}
+use Rattle.game.proofs.Headers.{header-sets}
 use Rattle.plan.specs.Answers.{planAnswer}
 use Rattle.plan.specs.Weights.{weightByNumber}
 use Rattle.plan.proofs.Forms.{length-is, header-first, header-second, header-denominators}
@@ -23,13 +28,17 @@ use Rattle.plan.proofs.check.Tie as tie
 moves : (c : tie.After-index2) → Counted (c .before .before .before .before .before .before .before .before .before .before .before .args .game .now) (c .before .before .index .result) (c .index2 .result)
 moves c = counted _ (c .before .before .before .before .before .before .before .before .before .before .before .pre .1) (c .before .before .before .before .before .first-sequences .ensures .1) (c .before .before .before .before .before .first-sequences .ensures .2) (c .before .before .index .ensures) (c .index2 .ensures)
 
-past-1 : (c : tie.After-enum-told) → let a = c .before .before .before .before .before .before .before .before .before .before .before .before .before .before .args in Past planChecks 1 (record { game = a .game .now; plan = a .plan .now })
-unfolding planChecks
-past-1 c = past-fine planChecks 0 14 (λ f. planHasLength (gameOf (f .game)) (f .plan)) refl (past-none planChecks _) (c .before .before .has-length .ensures _ (moves (c .before .before .before) .all)) (c .enum-told .given .1)
+-- the two files
+abbrev files : tie.Start → Files
+files s = record { game = s .args .game .now; plan = s .args .plan .now }
 
-past-2 : (c : tie.After-enum-told3) → let a = c .before .before .before .before .before .before .before .before .before .before .before .before .before .before .before .before .before .before .args in Past planChecks 2 (record { game = a .game .now; plan = a .plan .now })
-unfolding planChecks
-past-2 c = past-fine planChecks 1 15 (λ f. planWellFormed (gameOf (f .game)) (f .plan)) refl (past-1 (c .before .before .before .before)) (c .before .before .well-formed .ensures _ (moves (c .before .before .before .before .before .before .before) .all)) (c .enum-told3 .given .1)
+left-15 : (c : tie.After-enum-told) → Left planRows (drop 1 planRows) (files (c .before .before .before .before .before .before .before .before .before .before .before .before .before .before))
+unfolding planRows
+left-15 c = passes (begin planRows _) (c .before .before .has-length .ensures _ (moves (c .before .before .before) .all)) (c .enum-told .given .1)
+
+left-16 : (c : tie.After-enum-told3) → Left planRows (drop 2 planRows) (files (c .before .before .before .before .before .before .before .before .before .before .before .before .before .before .before .before .before .before))
+unfolding planRows
+left-16 c = passes (left-15 (c .before .before .before .before)) (c .before .before .well-formed .ensures _ (moves (c .before .before .before .before .before .before .before) .all)) (c .enum-told3 .given .1)
 
 first-sequences-requires : tie.Need-first-sequences-requires
 first-sequences-requires c κs =
@@ -43,7 +52,7 @@ well-formed-requires c κs =
     let g = gameOf (a .game .now) in
     let plan = a .plan .now in
     let m = moves (c .before .before .before .before) in
-    (c .read .ensures, m .few, length-is g plan _ (m .all) (fine-test (planHasLength g plan) (c .before .before .before .has-length .ensures g (m .all)) (c .before .enum-told .given .1)))
+    (c .read .ensures, m .few, length-is g plan _ (m .all) (fine-test 14 (planHasLength g plan) (c .before .before .before .has-length .ensures g (m .all)) (c .before .enum-told .given .1)))
 
 -- player 1's weights
 weights1 : (c : tie.After-decode) → let a = c .before .before .before .before .before .before .before .before .before .before .before .before .before .before .before .before .before .before .before .before .before .args in c .decode .last .1 .1 .1 .1 .0 ≡ over (weightByNumber (gameOf (a .game .now)) (a .plan .now) one) (sequenceCount (gameOf (a .game .now)) one) (a .x .now)
@@ -74,7 +83,7 @@ pair-fits-requires c κs =
     )
 
 -- the answer is that of the pair that the file holds
-pair : (c : tie.After-pair-fits) → let a = c .before .before .before .before .before .before .before .before .before .before .before .before .before .before .before .before .before .before .before .before .before .before .before .before .before .before .before .before .before .before .before .args in c .pair-fits .result ≡ checkedOf (pairFits (gameOf (a .game .now)) (planPairOf (gameOf (a .game .now)) (a .plan .now)))
+pair : (c : tie.After-pair-fits) → let a = c .before .before .before .before .before .before .before .before .before .before .before .before .before .before .before .before .before .before .before .before .before .before .before .before .before .before .before .before .before .before .before .args in c .pair-fits .result ≡ checkedOf 16 (pairFits (gameOf (a .game .now)) (planPairOf (gameOf (a .game .now)) (a .plan .now)))
 pair c =
     let s = c .before .before .before .before .before .before .before .before .before .before .before .before .before .before .before .before .before .before .before .before .before .before .before .before .before .before .before .before .before .before .before in
     let game = s .args .game .now in
@@ -83,38 +92,41 @@ pair c =
     let two-held = filled _ (weights2 (c .before .before .before .before .before .before)) (room game rules two (s .args .y .now) (s .pre .3)) in
     pair-fits (gameOf game) rules (s .args .plan .now) one-held two-held (c .pair-fits .ensures)
 
+-- a refusal, and arrays that are left or filled by its number
 refused-14 : tie.Need-returns
-unfolding planChecks
+unfolding planRows
 refused-14 c =
-    let s = c .before .before .before .before .before .before .before .before .before .before .before .before .before .before in
-    let plan = s .args .plan .now in
-    let e = past-stops planChecks 0 14 (λ f. planHasLength (gameOf (f .game)) (f .plan)) refl (past-none planChecks (record { game = s .args .game .now; plan = plan })) (c .before .before .has-length .ensures _ (moves (c .before .before .before) .all)) (c .enum-told2 .given .1) in
-    (ap (λ k. planAnswer k (s .args .game .now) plan) (sym e), after-early _ plan one _ _ e refl, after-early _ plan two _ _ e refl)
+    let s = c .before .before .before .before .before .before .before .before .before .before .before .before .before .before .before in
+    let e = c .before .before .before .has-length .ensures _ (moves (c .before .before .before .before) .all) in
+    let (r, k) = stops-at (begin planRows (files s)) e (c .before .enum-told2 .given .1) (c .number .ensures) in
+    let n = r .is in
+    (refuses (λ k. planAnswer k (s .args .game .now) (s .args .plan .now)) Refused (λ k. refl) n (r .some), after-early _ _ one 14 _ (n ∙ k) refl, after-early _ _ two 14 _ (n ∙ k) refl)
 
 refused-15 : tie.Need-returns-2
-unfolding planChecks
+unfolding planRows
 refused-15 c =
-    let s = c .before .before .before .before .before .before .before .before .before .before .before .before .before .before .before .before .before .before in
-    let plan = s .args .plan .now in
-    let e = past-stops planChecks 1 15 (λ f. planWellFormed (gameOf (f .game)) (f .plan)) refl (past-1 (c .before .before .before .before)) (c .before .before .well-formed .ensures _ (moves (c .before .before .before .before .before .before .before) .all)) (c .enum-told4 .given .1) in
-    (ap (λ k. planAnswer k (s .args .game .now) plan) (sym e), after-early _ plan one _ _ e refl, after-early _ plan two _ _ e refl)
+    let s = c .before .before .before .before .before .before .before .before .before .before .before .before .before .before .before .before .before .before .before in
+    let e = c .before .before .before .well-formed .ensures _ (moves (c .before .before .before .before .before .before .before .before) .all) in
+    let (r, k) = stops-at (left-15 (c .before .before .before .before .before)) e (c .before .enum-told4 .given .1) (c .number2 .ensures) in
+    let n = r .is in
+    (refuses (λ k. planAnswer k (s .args .game .now) (s .args .plan .now)) Refused (λ k. refl) n (r .some), after-early _ _ one 15 _ (n ∙ k) refl, after-early _ _ two 15 _ (n ∙ k) refl)
 
 refused-16 : tie.Need-returns-3
-unfolding planChecks
+unfolding planRows
 refused-16 c =
-    let s = c .before .before .before .before .before .before .before .before .before .before .before .before .before .before .before .before .before .before .before .before .before .before .before .before .before .before .before .before .before .before .before .before .before in
-    let plan = s .args .plan .now in
-    let e = past-stops planChecks 2 16 (λ f. pairFits (gameOf (f .game)) (planPairOf (gameOf (f .game)) (f .plan))) refl (past-2 (c .before .before .before .before .before .before .before .before .before .before .before .before .before .before .before)) (pair (c .before .before)) (c .enum-told6 .given .1) in
-    (ap (λ k. planAnswer k (s .args .game .now) plan) (sym e), after-late _ plan one _ _ e refl (weights1 (c .before .before .before .before .before .before .before .before .before .before .before .before)), after-late _ plan two _ _ e refl (weights2 (c .before .before .before .before .before .before .before .before)))
+    let s = c .before .before .before .before .before .before .before .before .before .before .before .before .before .before .before .before .before .before .before .before .before .before .before .before .before .before .before .before .before .before .before .before .before .before in
+    let e = pair (c .before .before .before) in
+    let (r, k) = stops-at (left-16 (c .before .before .before .before .before .before .before .before .before .before .before .before .before .before .before .before)) e (c .before .enum-told6 .given .1) (c .number3 .ensures) in
+    let n = r .is in
+    (refuses (λ k. planAnswer k (s .args .game .now) (s .args .plan .now)) Refused (λ k. refl) n (r .some), after-late _ _ one 16 _ (n ∙ k) refl (weights1 (c .before .before .before .before .before .before .before .before .before .before .before .before .before)), after-late _ _ two 16 _ (n ∙ k) refl (weights2 (c .before .before .before .before .before .before .before .before .before)))
 
 accepted : tie.Need-returns-4
-unfolding planChecks
+unfolding planRows
 accepted c =
     let s = c .before .before .before .before .before .before .before .before .before .before .before .before .before .before .before .before .before .before .before .before .before .before .before .before .before .before .before .before .before .before .before .before .before in
-    let plan = s .args .plan .now in
-    let past = past-fine planChecks 2 16 (λ f. pairFits (gameOf (f .game)) (planPairOf (gameOf (f .game)) (f .plan))) refl (past-2 (c .before .before .before .before .before .before .before .before .before .before .before .before .before .before .before)) (pair (c .before .before)) (c .enum-told5 .given .1) in
-    let e = past-all planChecks 3 _ refl past in
-    (fits-is (header-denominators plan _ (c .before .before .before .before .before .before .before .before .before .before .before .before .before .before .before .before .before .before .read .ensures)) (counts-are (gameOf (s .args .game .now)) _ (c .before .before .before .before .before .before .before .before .before .before .before .before .before .before .before .before .before .before .before .before .before .before .before .before .before .before .before .first-sequences .ensures .1) (c .before .before .before .before .before .before .before .before .before .before .before .before .before .before .before .before .before .before .before .before .before .before .before .before .before .before .before .first-sequences .ensures .2)) ∙ ap (λ k. planAnswer k (s .args .game .now) plan) (sym e), after-late _ plan one _ _ e refl (weights1 (c .before .before .before .before .before .before .before .before .before .before .before .before)), after-late _ plan two _ _ e refl (weights2 (c .before .before .before .before .before .before .before .before)))
+    let n = ends (passes (left-16 (c .before .before .before .before .before .before .before .before .before .before .before .before .before .before .before)) (pair (c .before .before)) (c .enum-told5 .given .1)) in
+    let f = c .before .before .before .before .before .before .before .before .before .before .before .before .before .before .before .before .before .before .before .before .before .before .before .before .before .before .before .first-sequences .ensures in
+    (fits-is (header-denominators _ _ (c .before .before .before .before .before .before .before .before .before .before .before .before .before .before .before .before .before .before .read .ensures)) (counts-are (gameOf (s .args .game .now)) _ (f .1) (f .2)) ∙ ap (λ k. planAnswer k (s .args .game .now) (s .args .plan .now)) (sym n), after-late _ _ one 0 _ n refl (weights1 (c .before .before .before .before .before .before .before .before .before .before .before .before)), after-late _ _ two 0 _ n refl (weights2 (c .before .before .before .before .before .before .before .before)))
 
 pub check-spec : {M : Type 1} → statement M
 check-spec =
@@ -130,11 +142,13 @@ check-spec =
     (λ c κs. moves c .few)
     (λ c. search needs)
     (λ c. search needs)
+    (λ c κs. search needs)
     refused-14
     (λ c κs. search needs)
     well-formed-requires
     (λ c. search needs)
     (λ c. search needs)
+    (λ c κs. search needs)
     refused-15
     (λ c κs. let m = moves (c .before .before .before .before .before .before .before .before .before) in (omega arith, omega (arith, m .few), omega (arith, m .few, c .before .before .before .before .before .before .before .before .before .before .before .before .before .before .before .before .before .before .before .before .pre .2)))
     (λ c κs. let m = moves (c .before .before .before .before .before .before .before .before .before .before .before .before .before) in (omega (arith, m .few), omega (arith, m .few), omega (arith, m .few, c .before .before .before .before .before .before .before .before .before .before .before .before .before .before .before .before .before .before .before .before .before .before .before .before .pre .3)))
@@ -142,6 +156,7 @@ check-spec =
     pair-fits-requires
     (λ c. search needs)
     (λ c. search needs)
+    (λ c κs. search needs)
     (λ c. search needs)
     (λ c. search needs)
     refused-16

@@ -1,8 +1,8 @@
 -- A walk of the MIR by hand: no branch and no loop. Four arrays are lent to `tabulated`, come back, and are lent to `fill_rows`; the rows are given up to `fill_rows` for good.
-use mathlib.Core.Path.{_≡_, refl, _∙_}
+use mathlib.Core.Path.{_≡_, refl}
 use Prim.Native.Nat.{ℕ}
 use native.Mathlib.Omega.{arith}
-use mathlib.Core.List.{[], _∷_, List}
+use mathlib.Core.List.{[], _∷_, List, map}
 use lib.Dec.{T as Holds, lit<}
 use lib.IntN.{ℤ, pos}
 use lib.ListN.{length}
@@ -46,13 +46,16 @@ use denote.Triple.Walked.{says, Stays, stay-none-slice, gave-slice, walkOf, goes
 use denote.Exit.{yes}
 use denote.Signature.{plain}
 use Rattle.algebra.specs.Arrays.{over}
-use Rattle.model.specs.Calls.{afterCall}
+use Rattle.model.specs.Call.{outcome}
+use Rattle.model.specs.calls.PayoffTable.{payoffRows}
 use Rattle.table.specs.declared.TableAnswer.{TableAnswer}
-use Rattle.table.specs.Tables.{columns, Copyable, tableAnswer}
+use Rattle.table.specs.Answers.{tableAnswered}
+use Rattle.table.specs.Tables.{Columns, columns, Copyable}
 use Rattle.table.proofs.TableAnswer as E
 use Rattle.table.proofs.TableAnswer.Laws as E′
 use Rattle.rows.specs.declared.Row.{Row}
-use Rattle.rows.specs.Rows.{tableRows, rowsRefusal, rowsGiven, rowIn, columnsIn}
+use Rattle.rows.specs.Answers.{modelRow}
+use Rattle.rows.specs.Rows.{TableMade, rowsGiven, rowIn}
 use Rattle.rows.proofs.Filling.{Filled, filled}
 use Rattle.rows.proofs.Locals.{big-lit, ref, made-typed, made-lies, lends, shares-back, room-back}
 use Rattle.rows.proofs.Row as T
@@ -121,10 +124,6 @@ module _ {M : Type 1} (𝓤 : URA M) (H : Heap 𝓤) (A : Atoms 𝓤) (W : Given
   abbrev v : Val
   v = sliceVal (b, o) (length ys)
 
-  -- the refusal of the call
-  abbrev k : ℕ
-  k = rowsRefusal (now game) (length ys)
-
   abbrev slice : ℕ → Val
   slice l = sliceVal (l, 0) 4095
 
@@ -174,8 +173,12 @@ module _ {M : Type 1} (𝓤 : URA M) (H : Heap 𝓤) (A : Atoms 𝓤) (W : Given
   abbrev Columned : Type 0
   Columned = Unit {0} × (Unit {0} × (List ℕ × (List ℕ × (List ℤ × (List ℤ × Unit {0})))))
 
+  -- the columns that it leaves
+  abbrev after : Columned → Columns
+  after zs = columns (zs .1 .1 .0) (zs .1 .1 .1 .0) (zs .1 .1 .1 .1 .0) (zs .1 .1 .1 .1 .1 .0)
+
   abbrev IsTabulated : (y₁ y₂ : List ℕ) (y₃ y₄ : List ℤ) → TableAnswer → Columned → Type 0
-  IsTabulated y₁ y₂ y₃ y₄ r zs = (r ≡ tableAnswer k (now game)) × (columns (zs .1 .1 .0) (zs .1 .1 .1 .0) (zs .1 .1 .1 .1 .0) (zs .1 .1 .1 .1 .1 .0) ≡ columnsIn (now game) (columns y₁ y₂ y₃ y₄))
+  IsTabulated y₁ y₂ y₃ y₄ r zs = TableMade (now game) (length ys) (columns y₁ y₂ y₃ y₄) r (after zs)
 
   ends-tabulated : (ν l₃ l₄ l₅ l₆ : ℕ) (y₁ y₂ : List ℕ) (y₃ y₄ : List ℤ) (γ₁ γ₂ γ₃ γ₄ : GName) (zs : Columned)
       → ent 𝓤 (sem 𝓤 H A (lasts tabulated.ended (κ, (ν ∷ [], tt)) (game, (length ys, passed l₃ l₄ l₅ l₆ y₁ y₂ y₃ y₄ γ₁ γ₂ γ₃ γ₄)) zs)) (⋆ 𝓤 H A (‵ (finally u64 γ₁ (zs .1 .1 .0)) ∷ ‵ (finally u64 γ₂ (zs .1 .1 .1 .0)) ∷ ‵ (finally i64 γ₃ (zs .1 .1 .1 .1 .0)) ∷ ‵ (finally i64 γ₄ (zs .1 .1 .1 .1 .1 .0)) ∷ []))
@@ -197,7 +200,7 @@ module _ {M : Type 1} (𝓤 : URA M) (H : Heap 𝓤) (A : Atoms 𝓤) (W : Given
   abbrev to-fill : (ν n : ℕ) → Val → (l₃ l₄ l₅ l₆ : ℕ) (z₁ z₂ : List ℕ) (z₃ z₄ : List ℤ) (δ₁ δ₂ δ₃ δ₄ : GName) → FillRows 𝓤 H A at-mem run .Ghost
   to-fill ν n u l₃ l₄ l₅ l₆ z₁ z₂ z₃ z₄ δ₁ δ₂ δ₃ δ₄ = (((κ′, (ν ∷ [], tt)), (q′, (fullShare, tt)), tt, (x ys, (n, passed l₃ l₄ l₅ l₆ z₁ z₂ z₃ z₄ δ₁ δ₂ δ₃ δ₄)), (v ∷ [], (u ∷ [], slices l₃ l₄ l₅ l₆))), tt)
 
-  goes-fill : (ν n : ℕ) (u : Val) (l₃ l₄ l₅ l₆ : ℕ) (z₁ z₂ : List ℕ) (z₃ z₄ : List ℤ) (δ₁ δ₂ δ₃ δ₄ : GName) → Is usize n (u ∷ []) → Filled (now game) ys n (columns z₁ z₂ z₃ z₄)
+  goes-fill : (ν n : ℕ) (u : Val) (l₃ l₄ l₅ l₆ : ℕ) (z₁ z₂ : List ℕ) (z₃ z₄ : List ℤ) (δ₁ δ₂ δ₃ δ₄ : GName) → Is usize n (u ∷ []) → {r : TableAnswer} → Filled (now game) ys r n (columns z₁ z₂ z₃ z₄)
       → ent 𝓤 (⋆ 𝓤 H A (‵ (flft κ′ q′) ∷ ‵ (flft (ν ∷ []) fullShare) ∷ ‵ (MutSlice (named 1) κ′ R .own (x ys) (v ∷ [])) ∷ ‵ (Shared (named 1) ν u64 l₃ δ₁ z₁) ∷ ‵ (Shared (named 1) ν u64 l₄ δ₂ z₂) ∷ ‵ (Shared (named 1) ν i64 l₅ δ₃ z₃) ∷ ‵ (Shared (named 1) ν i64 l₆ δ₄ z₄) ∷ [])) (FillRows 𝓤 H A at-mem run .pre (to-fill ν n u l₃ l₄ l₅ l₆ z₁ z₂ z₃ z₄ δ₁ δ₂ δ₃ δ₄))
   goes-fill ν n u l₃ l₄ l₅ l₆ z₁ z₂ z₃ z₄ δ₁ δ₂ δ₃ δ₄ is h =
       qed W (‵ (flft κ′ q′) ∷ ‵ (flft (ν ∷ []) fullShare) ∷ ‵ (MutSlice (named 1) κ′ R .own (x ys) (v ∷ [])) ∷ ‵ (Shared (named 1) ν u64 l₃ δ₁ z₁) ∷ ‵ (Shared (named 1) ν u64 l₄ δ₂ z₂) ∷ ‵ (Shared (named 1) ν i64 l₅ δ₃ z₃) ∷ ‵ (Shared (named 1) ν i64 l₆ δ₄ z₄) ∷ []) ∵ says ! (h .in-rows, h .all-columns) $
@@ -211,11 +214,11 @@ module _ {M : Type 1} (𝓤 : URA M) (H : Heap 𝓤) (A : Atoms 𝓤) (W : Given
   abbrev IsFilled : (n : ℕ) (z₁ z₂ : List ℕ) (z₃ z₄ : List ℤ) → Rowed → Type 0
   IsFilled n z₁ z₂ z₃ z₄ xs = xs .0 ≡ over (rowIn (columns z₁ z₂ z₃ z₄)) n ys
 
-  exits : (r : TableAnswer) (w : Val) (xs : List Row) → Is E.the-row r (w ∷ []) → r ≡ tableAnswer k (now game) → xs ≡ afterCall k (tableRows (now game)) ys → length xs ≡ length ys
+  exits : (r : TableAnswer) (w : Val) (xs : List Row) → Is E.the-row r (w ∷ []) → outcome (tableAnswered r) (map modelRow xs, tt) ≡ payoffRows (now game) (map modelRow ys) → length xs ≡ length ys
       → ent 𝓤 (⋆ 𝓤 H A (‵ (flft κ q) ∷ ‵ (flft κ′ q′) ∷ ‵ Game ∷ ‵ (finally R γ xs) ∷ [])) (Post w)
-  exits r w xs is e-r e-x l =
+  exits r w xs is e l =
       qed W (‵ (flft κ q) ∷ ‵ (flft κ′ q′) ∷ ‵ Game ∷ ‵ (finally R γ xs) ∷ []) ∵
-      suffices ! _ (ends-at 𝓤 H A payoff-rows.ended stayed (payoff-rows.clauses 𝓤 H A at-mem run) W (((κ, (κ′, tt)), (q, (q′, tt)), tt, a, vals), tt) w r (tt, (xs, tt)) (tt, (l, tt))) $ says ! (e-r, e-x) $
+      suffices ! _ (ends-at 𝓤 H A payoff-rows.ended stayed (payoff-rows.clauses 𝓤 H A at-mem run) W (((κ, (κ′, tt)), (q, (q′, tt)), tt, a, vals), tt) w r (tt, (xs, tt)) (tt, (l, tt))) $ says ! e $
       nothing ! $ move ! (2 ∷ 0 ∷ []) $ join ! $ move ! (1 ∷ 0 ∷ []) $ join ! $ frame ! $
       nothing ! $ move ! (2 ∷ 0 ∷ []) $ fjoin ! $ move ! (1 ∷ 0 ∷ []) $ fjoin ! $ owned ! E.the-row (Is E.the-row) (EL.makes E.the-type E′.the-plain 𝓤 H A) r (w ∷ []) is $ move ! (1 ∷ 0 ∷ []) $ done !
 
@@ -269,7 +272,7 @@ module _ {M : Type 1} (𝓤 : URA M) (H : Heap 𝓤) (A : Atoms 𝓤) (W : Given
         assigns ! (addr ! (from ! (stop !))) (from ! (stop !)) (init ! 21 refl (tt, tt)) $ assigns ! (agg ! (and-then ! (load ! (from ! (stop !)) (look ! 21 refl)) (and-then ! (big-lit ! (record { fits = lit< tt })) (no-more !)))) (from ! (stop !)) (init ! 19 refl (tt, (tt, (record { fits = lit< tt }, tt)))) $
         assigns ! (addr ! (from ! (stop !))) (from ! (stop !)) (init ! 17 refl (tt, tt)) $ assigns ! (agg ! (and-then ! (load ! (from ! (stop !)) (look ! 17 refl)) (and-then ! (big-lit ! (record { fits = lit< tt })) (no-more !)))) (from ! (stop !)) (init ! 15 refl (tt, (tt, (record { fits = lit< tt }, tt)))) $
         -- `fill_rows`
-        move ! (14 ∷ []) $ split ! $ move ! (0 ∷ 10 ∷ 13 ∷ 8 ∷ 6 ∷ 4 ∷ 2 ∷ []) $ group ! 7 $ use1 W (raw (FillRows 𝓤 H A at-mem run .pre (to-fill ν′ n u l₃ l₄ l₅ l₆ (zs .1 .1 .0) (zs .1 .1 .1 .0) (zs .1 .1 .1 .1 .0) (zs .1 .1 .1 .1 .1 .0) δ₁ δ₂ δ₃ δ₄))) (goes-fill ν′ n u l₃ l₄ l₅ l₆ (zs .1 .1 .0) (zs .1 .1 .1 .0) (zs .1 .1 .1 .1 .0) (zs .1 .1 .1 .1 .1 .0) δ₁ δ₂ δ₃ δ₄ is-n (filled (now game) ys (columns y₁ y₂ y₃ y₄) (e .0) e-n (e .1))) $
+        move ! (14 ∷ []) $ split ! $ move ! (0 ∷ 10 ∷ 13 ∷ 8 ∷ 6 ∷ 4 ∷ 2 ∷ []) $ group ! 7 $ use1 W (raw (FillRows 𝓤 H A at-mem run .pre (to-fill ν′ n u l₃ l₄ l₅ l₆ (zs .1 .1 .0) (zs .1 .1 .1 .0) (zs .1 .1 .1 .1 .0) (zs .1 .1 .1 .1 .1 .0) δ₁ δ₂ δ₃ δ₄))) (goes-fill ν′ n u l₃ l₄ l₅ l₆ (zs .1 .1 .0) (zs .1 .1 .1 .0) (zs .1 .1 .1 .1 .0) (zs .1 .1 .1 .1 .1 .0) δ₁ δ₂ δ₃ δ₄ is-n (filled (now game) ys r (columns y₁ y₂ y₃ y₄) (after zs) e-n e)) $
         calls-at ! fm (FillRows 𝓤 H A at-mem run) known-fill (to-fill ν′ n u l₃ l₄ l₅ l₆ (zs .1 .1 .0) (zs .1 .1 .1 .0) (zs .1 .1 .1 .1 .0) (zs .1 .1 .1 .1 .1 .0) δ₁ δ₂ δ₃ δ₄) (and-then ! (load ! (from ! (stop !)) (look ! 26 refl)) (and-then ! (load ! (from ! (stop !)) (look ! 48 refl)) (and-then ! (load ! (from ! (stop !)) (look ! 22 refl)) (and-then ! (load ! (from ! (stop !)) (look ! 18 refl)) (and-then ! (load ! (from ! (stop !)) (look ! 14 refl)) (and-then ! (load ! (from ! (stop !)) (look ! 10 refl)) (no-more !))))))) (λ t.
         use1 W (later (some (λ (d : Unit {0}). ((‵ (flft κ′ q′) ⊛ ‵ (flft (ν′ ∷ []) fullShare) ⊛ ‵ ftrue) ⊛ ‵ (unit .own d (t ∷ []))) ⊛ raw (ensured 𝓤 H A fill-rows.ended (fill-rows.clauses 𝓤 H A at-mem run) (κ′, (ν′ ∷ [], tt)) (x ys, (n, passed l₃ l₄ l₅ l₆ (zs .1 .1 .0) (zs .1 .1 .1 .0) (zs .1 .1 .1 .1 .0) (zs .1 .1 .1 .1 .1 .0) δ₁ δ₂ δ₃ δ₄)) tt d)))) (id⊢ 𝓤 _) $ await ! tt $ pick ! (λ d.
         split ! $ move ! (1 ∷ []) $ use1 W (some (λ (xs : Rowed). ‵ (lasts fill-rows.ended (κ′, (ν′ ∷ [], tt)) (x ys, (n, passed l₃ l₄ l₅ l₆ (zs .1 .1 .0) (zs .1 .1 .1 .0) (zs .1 .1 .1 .1 .0) (zs .1 .1 .1 .1 .1 .0) δ₁ δ₂ δ₃ δ₄)) xs) ⊛ raw (fact 𝓤 (IsFilled n (zs .1 .1 .0) (zs .1 .1 .1 .0) (zs .1 .1 .1 .1 .0) (zs .1 .1 .1 .1 .1 .0) xs)))) (id⊢ 𝓤 _) $ pick ! (λ xs. split ! $ move ! (1 ∷ []) $ heard ! (IsFilled n (zs .1 .1 .0) (zs .1 .1 .1 .0) (zs .1 .1 .1 .1 .0) (zs .1 .1 .1 .1 .1 .0) xs) (λ e-x. fsplit ! $ fsplit ! $ move ! (1 ∷ []) $ feqL ! (λ e-l.
@@ -287,7 +290,7 @@ module _ {M : Type 1} (𝓤 : URA M) (H : Heap 𝓤) (A : Atoms 𝓤) (W : Given
         move ! (35 ∷ 36 ∷ []) $ free1 ! $ move ! (33 ∷ 34 ∷ []) $ free1 ! $ move ! (31 ∷ 32 ∷ []) $ free1 ! $ move ! (29 ∷ 30 ∷ []) $ free1 ! $ move ! (27 ∷ 28 ∷ []) $ free1 ! $ move ! (25 ∷ 26 ∷ []) $ free1 ! $ move ! (23 ∷ 24 ∷ []) $ free1 ! $
         move ! (21 ∷ 22 ∷ []) $ free1 ! $ move ! (19 ∷ 20 ∷ []) $ free1 ! $ move ! (17 ∷ 18 ∷ []) $ free1 ! $ move ! (15 ∷ 16 ∷ []) $ free1 ! $ move ! (13 ∷ 14 ∷ []) $ free1 ! $ move ! (11 ∷ 12 ∷ []) $ free1 ! $ move ! (9 ∷ 10 ∷ []) $ free1 ! $
         free0 ! $
-        keep ! (6 ∷ 1 ∷ 8 ∷ 2 ∷ []) $ by ! (exits r w (xs .0) is-r (e .0) (e-x ∙ filled (now game) ys (columns y₁ y₂ y₃ y₄) (e .0) e-n (e .1) .are) e-l))))))))))))))))))))))))))))))))))))))))))))))))))))))))))))))
+        keep ! (6 ∷ 1 ∷ 8 ∷ 2 ∷ []) $ by ! (exits r w (xs .0) is-r (filled (now game) ys r (columns y₁ y₂ y₃ y₄) (after zs) e-n e .are e-x) e-l))))))))))))))))))))))))))))))))))))))))))))))))))))))))))))))
 
 module _ {M : Type 1} (𝓤 : URA M) (H : Heap 𝓤) (A : Atoms 𝓤) (W : Given 𝓤 H A) (at-mem : Memory → SProp 𝓤) (run : Routine → Fun 𝓤) where
   payoff-rows-walks : (C : Calls 𝓤 H) (Λ : Loops 𝓤 H) → FmC 𝓤 H (W .laws) C → Triple 𝓤 (C #rows·tabulated) (Tabulated 𝓤 H A at-mem run) → Triple 𝓤 (C #rows·rows-given) (RowsGiven 𝓤 H A at-mem run) → Triple 𝓤 (C #rows·fill-rows) (FillRows 𝓤 H A at-mem run)

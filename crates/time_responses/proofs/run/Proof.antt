@@ -6,9 +6,9 @@ use native.Mathlib.Omega.{arith}
 use borrow.Author.Needs.{needs}
 use lib.ListN.{length, replicate}
 use Rattle.model.specs.Game.{gameOf, one, two}
-use Rattle.model.specs.PlanChecks.{pairRefusal}
+use Rattle.model.specs.Checks.{pairRefusal}
 use Rattle.model.proofs.Budget.{game-limits}
-use Rattle.model.proofs.Demand1.{game-rules}
+use Rattle.model.proofs.Checks.{game-rules}
 use Rattle.plan.specs.declared.PairHeader.{PairHeader}
 use Rattle.plan.specs.Weights.{Weights}
 use Rattle.plan.specs.Answers.{weightsAfter}

@@ -6,7 +6,7 @@ use Rattle.algebra.proofs.Fillings.{filled}
 use Rattle.model.specs.Game.{gameOf, playerOf}
 use Rattle.model.specs.Plan.{fits}
 use Rattle.game.proofs.Headers.{header-nodes, header-sets, header-framed}
-use Rattle.game.proofs.Passes.{Passed, passed-none, passed-more, passed-not, passed-all}
+use Rattle.checks.proofs.Passes.{Passed, passed-none, passed-more, passed-not, passed-all}
 use Rattle.game.proofs.Rooted.{rules-rooted}
 use Rattle.plan.proofs.Balance.{balanceTest}
 use Rattle.plan.proofs.fits.player_fits.Statement.{statement}
@@ -35,11 +35,11 @@ again c = passed-more _ _ _ _ (c .before .before .before .before .loop .inv) (om
 
 broken : tie.Need-returns Inv-loop μ-loop
 unfolding fits
-broken c = passed-not _ _ _ _ (omega (arith, header-sets _ _ (c .before .before .before .before .before .before .before .before .before .before .before .before .before .before .pre .0))) (c .before .set-balanced .ensures) (c .if1 .left)
+broken c = passed-not _ _ 16 _ _ (omega (arith, header-sets _ _ (c .before .before .before .before .before .before .before .before .before .before .before .before .before .before .pre .0))) (c .before .set-balanced .ensures) (c .if1 .left)
 
 fine : tie.Need-returns-2 Inv-loop μ-loop
 unfolding fits
-fine c = passed-all _ _ _ (c .before .loop .inv) (omega (arith, header-sets _ _ (c .before .before .before .before .before .before .before .before .before .before .before .pre .0)))
+fine c = passed-all _ _ 16 _ (c .before .loop .inv) (omega (arith, header-sets _ _ (c .before .before .before .before .before .before .before .before .before .before .before .pre .0)))
 
 pub player-fits-spec : {M : Type 1} → statement M
 player-fits-spec =

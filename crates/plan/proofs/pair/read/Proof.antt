@@ -2,7 +2,7 @@
 use mathlib.Core.Path.{refl, sym, _∙_}
 use borrow.Author.Needs.{needs}
 use Rattle.model.specs.Game.{one, two}
-use Rattle.model.proofs.Demand1.{game-rules}
+use Rattle.model.proofs.Checks.{game-rules}
 use Rattle.game.proofs.Outcomes.{opened, sent, refuses}
 use Rattle.plan.specs.declared.PairAnswer.the-variants.{Refused}
 use Rattle.plan.specs.Answers.{pairAnswer}

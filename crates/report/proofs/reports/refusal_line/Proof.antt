@@ -1,20 +1,20 @@
 -- The line is put into a buffer that is long enough, and given from there. The answer stands before what the calls ask.
 use Prim.Native.Nat.{_≤_}
-use mathlib.Core.Path.{sym}
+use mathlib.Core.Path.{sym, _∙_}
 use native.Mathlib.Omega.{arith}
 use borrow.Author.Needs.{needs}
 use lib.ListN.{length}
 use lib.Seq.{length-take-le}
 use Rattle.text.proofs.Puts.{put-read}
 use Rattle.text.proofs.Lengths.{refusal-line-length}
-use Rattle.report.proofs.Calls.{line-refusal}
+use Rattle.report.proofs.Calls.{line-given}
 use Rattle.report.proofs.reports.refusal_line.Statement.{statement}
 use Rattle.report.proofs.reports.refusal_line.Tie as tie
 
 returns : tie.Need-returns
 returns c =
     let a = c .before .before .before .before .before .before .before .before .before .args in
-    rw (line-refusal (a .number) (length (a .out .now))) (rw (put-read (c .before .before .before .before .before .before .put-refusal .ensures)) at (c .before .before .give .ensures))
+    (rw (put-read (c .before .before .before .before .before .before .put-refusal .ensures)) at (c .before .before .give .ensures)) ∙ line-given (a .number) (a .out .now)
 
 put-refusal-requires : tie.Need-put-refusal-requires
 put-refusal-requires c κs = let s = c .before .before in record { fits = omega (arith, refusal-line-length (s .args .number) (s .fits .number .fits)) }

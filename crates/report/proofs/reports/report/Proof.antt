@@ -1,9 +1,9 @@
 -- The pair's refusal; or the report on what was evaluated and judged.
+use mathlib.Core.Path.{_∙_}
 use borrow.Author.Needs.{needs}
-use lib.ListN.{length}
 use Rattle.verdict.proofs.Evaluated.{EvaluationOpened, evaluation-opened, evaluation-sent}
 use Rattle.verdict.proofs.Judged.{judge-asks}
-use Rattle.report.proofs.Calls.{refused-given, pair-told, file-most, pair-ready, report-told}
+use Rattle.report.proofs.Calls.{report-refused, report-given, file-most, pair-ready, report-agrees}
 use Rattle.report.proofs.reports.report.Statement.{statement}
 use Rattle.report.proofs.reports.report.Tie as tie
 
@@ -11,7 +11,7 @@ refused : tie.Need-returns
 refused c =
     let a = c .before .before .before .before .before .before .before .before .before .before .before .args in
     let s = evaluation-sent (a .game .now) (a .plan .now) (c .before .before .before .before .before .evaluate .ensures .0) (c .before .enum-told .given .1) (c .refusal .ensures) in
-    refused-given (a .game .now) (a .plan .now) (a .out .now) (s .0) (s .1)
+    report-refused (a .game .now) (a .plan .now) (a .out .now) (s .0) (s .1)
 
 -- what is known of the pair, once it is taken apart
 opened : (c : tie.After-evaluated) → EvaluationOpened (c .before .before .before .before .before .before .before .before .before .before .args .game .now) (c .before .before .before .before .before .before .before .before .before .before .args .plan .now) (c .evaluated .given .0 .0) (c .evaluated .given .0 .1 .0) (c .before .before .before .before .evaluate .last .1 .1 .0) (c .before .before .before .before .evaluate .last .1 .1 .1 .0)
@@ -22,10 +22,10 @@ judge-requires c κs =
     let v = opened (c .before) in
     judge-asks _ _ _ (v .opened) (v .values)
 
-tell-requires : tie.Need-tell-requires
-tell-requires c κs =
+give-report-requires : tie.Need-give-report-requires
+give-report-requires c κs =
     let v = opened (c .before .before .before .before .before) in
-    (pair-ready _ _ _ (v .opened) (v .best1 .long) (v .best2 .long), rw (report-told _ _ _ v (c .before .before .before .judge .ensures)) (file-most _ _ (v .opened .none)))
+    (pair-ready _ _ _ (v .opened) (v .best1 .long) (v .best2 .long), rw (report-agrees _ _ _ v (c .before .before .before .judge .ensures)) (file-most _ _ (v .opened .none)))
 
 returns : tie.Need-returns-2
 returns c =
@@ -33,7 +33,7 @@ returns c =
     let g = a .game .now in
     let p = a .plan .now in
     let v = opened (c .before .before .before .before .before .before .before .before) in
-    rw (pair-told g p (length (a .out .now)) (v .opened .none)) (rw (report-told g p _ v (c .before .before .before .before .before .before .judge .ensures)) at (c .before .before .tell .ensures))
+    (rw (report-agrees g p _ v (c .before .before .before .before .before .before .judge .ensures)) at (c .before .before .give-report .ensures)) ∙ report-given g p (a .out .now) (v .opened .none)
 
 pub report-spec : {M : Type 1} → statement M
 report-spec =
@@ -49,6 +49,6 @@ report-spec =
     judge-requires
     (λ c. search needs)
     (λ c. search needs)
-    tell-requires
+    give-report-requires
     (λ c. search needs)
     returns)

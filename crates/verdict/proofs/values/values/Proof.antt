@@ -1,13 +1,9 @@
 -- The pair's refusal, or what was evaluated.
-use mathlib.Core.Path.{refl, sym}
 use borrow.Author.Needs.{needs}
 use mir.Syntax.{w64}
 use mir.Facts.{toZ-ofZ}
-use Rattle.game.proofs.Outcomes.{refuses}
-use Rattle.verdict.specs.declared.ValuesAnswer.the-variants.{Refused}
-use Rattle.verdict.specs.Values.{valuesAnswer}
 use Rattle.verdict.proofs.Evaluated.{evaluation-opened, evaluation-sent}
-use Rattle.verdict.proofs.Valued.{values-are-read}
+use Rattle.verdict.proofs.Valued.{values-refused, values-given}
 use Rattle.verdict.proofs.values.values.Statement.{statement}
 use Rattle.verdict.proofs.values.values.Tie as tie
 
@@ -17,7 +13,7 @@ refused c =
     let g = a .game .now in
     let p = a .plan .now in
     let s = evaluation-sent g p (c .before .before .before .before .before .evaluate .ensures .0) (c .before .enum-told .given .1) (c .refusal .ensures) in
-    refuses (λ k. valuesAnswer k g p) Refused (λ k. refl) (sym (s .0)) (s .1)
+    values-refused g p (s .0) (s .1)
 
 given : tie.Need-returns-2
 given c =
@@ -25,7 +21,7 @@ given c =
     let a = s .before .before .before .before .before .before .before .before .before .args in
     let v = evaluation-opened (a .game .now) (a .plan .now) (s .before .before .before .before .evaluate .ensures) (s .evaluated .given .1) in
     let values = s .evaluated .given .0 .1 .0 in
-    values-are-read (a .game .now) (a .plan .now) _ (v .opened) (v .values) (toZ-ofZ {w = w64} {z = values .value1} (search needs)) (toZ-ofZ {w = w64} {z = values .value2} (search needs)) (toZ-ofZ {w = w64} {z = values .best1} (search needs)) (toZ-ofZ {w = w64} {z = values .best2} (search needs))
+    values-given (a .game .now) (a .plan .now) _ (v .opened) (v .values) (toZ-ofZ {w = w64} {z = values .value1} (search needs)) (toZ-ofZ {w = w64} {z = values .value2} (search needs)) (toZ-ofZ {w = w64} {z = values .best1} (search needs)) (toZ-ofZ {w = w64} {z = values .best2} (search needs))
 
 pub values-spec : {M : Type 1} → statement M
 values-spec =

@@ -1,35 +1,41 @@
--- With room the moves are put and told; without it nothing is.
-use mathlib.Core.Path.{_∙_}
+-- With room the moves are put and the deviation is stated; without it nothing is.
+use mathlib.Core.Path.{sym, _∙_}
+use mathlib.Core.List.{map}
 use native.Mathlib.Omega.{arith}
 use native.Mathlib.Numerals.{add-one}
 use borrow.Author.Needs.{needs}
 use mir.Facts.{toZ-ofZ}
-use lib.ListN.{length-map}
+use lib.Dec.{leb, leb→le}
+use lib.ListN.{length, length-map}
 use Rattle.model.specs.Game.{gameOf, playerOf}
 use Rattle.model.specs.Earnings.{setsOf}
 use Rattle.model.specs.Writing.{entry}
-use Rattle.verdict.proofs.Judged.{shown-with-room, shown-without, buffer-with-room, buffer-without}
+use Rattle.checks.proofs.Chains.{fine-test}
+use Rattle.verdict.proofs.Shown.{shown-short, shown-given}
 use Rattle.verdict.proofs.verdicts.show.Statement.{statement}
 use Rattle.verdict.proofs.verdicts.show.Tie as tie
 
 returns : tie.Need-returns
 returns c =
-    let s = c .before .before .before .before .before .before .before .before .before .before in
-    let a = s .args in
-    let count = c .before .before .before .before .before .before .set-count .ensures in
-    let l = c .before .before .before .before .before .if1 .taken in
-    let sets = setsOf (gameOf (a .game .now)) (playerOf (a .player)) in (
-      rw (toZ-ofZ (s .fits .gain), c .base .ensures, count, add-one) (shown-with-room _ _ _ _ _ (omega (arith, count, l))),
-      c .before .before .before .put-strategy .ensures ∙ buffer-with-room _ _ (omega (arith, length-map sets (entry (a .moves .now)), count, l)),
-    )
+    let a = c .before .before .before .before .before .before .before .before .args in
+    let sets = setsOf (gameOf (a .game .now)) (playerOf (a .player)) in
+    shown-short _ _ _ (map (entry (a .moves .now)) sets) (a .out .now) (c .before .before .before .before .set-count .ensures ∙ sym (length-map sets (entry (a .moves .now)))) (c .before .before .before .has-room .ensures) (c .before .enum-told2 .given .1) (c .number .ensures)
 
 returns-2 : tie.Need-returns-2
 returns-2 c =
-    let a = c .before .before .before .before .before .args in
-    let count = c .before .set-count .ensures in
-    let l = c .if1 .left in
+    let s = c .before .before .before .before .before .before .before .before .before .before .before in
+    let a = s .args in
     let sets = setsOf (gameOf (a .game .now)) (playerOf (a .player)) in
-    (shown-without _ _ _ _ _ (omega (arith, count, l)), buffer-without _ _ (omega (arith, length-map sets (entry (a .moves .now)), count, l)))
+    rw (toZ-ofZ (s .fits .gain), add-one)
+    (shown-given _ _ _ (map (entry (a .moves .now)) sets) (a .out .now) (c .before .before .before .before .before .before .before .set-count .ensures ∙ sym (length-map sets (entry (a .moves .now)))) (c .before .before .before .before .before .before .has-room .ensures) (c .before .before .before .before .enum-told .given .1) (c .before .before .put-strategy .ensures))
+
+put-strategy-requires : tie.Need-put-strategy-requires
+put-strategy-requires c κs =
+    let s = c .before .before .before .before .before .before .before .before in
+    let size = c .before .before .before .before .set-count .result in
+    let room = length (s .args .out .now) in
+    let l = leb→le size room (fine-test 18 (leb size room) (c .before .before .before .has-room .ensures) (c .before .enum-told .given .1)) in
+    (s .pre .0, s .pre .1, s .pre .2, omega (arith, c .before .before .before .before .set-count .ensures, l))
 
 pub show-spec : {M : Type 1} → statement M
 show-spec =
@@ -38,7 +44,10 @@ show-spec =
     (λ c κs. search needs)
     (λ c κs. search needs)
     (λ c. search needs)
-    (λ c κs. search needs)
     (λ c. search needs)
+    (λ c κs. search needs)
     returns
+    put-strategy-requires
+    (λ c. search needs)
+    (λ c. search needs)
     returns-2)

@@ -26,45 +26,45 @@ accepted c =
     let g = a .game .now in
     let p = a .plan .now in
     let v = opened (c .before .before .before .before .before) in
-    let yes = sym (judged-as g p _ (v .opened) (v .values) (c .before .before .before .judge .ensures)) ∙ c .before .enum-told2 .given .1 in
-    accepted-given g p (a .moves .now) (v .opened .none) (says-equilibrium (gameOf g) (planPairOf (gameOf g) p) yes) (c .base .ensures ∙ base-is g p _ (v .opened))
+    let yes = sym (judged-as g p _ (v .opened) (v .values) (c .before .before .judge .ensures)) ∙ c .enum-told2 .given .1 in
+    accepted-given g p (a .moves .now) (v .opened .none) (says-equilibrium (gameOf g) (planPairOf (gameOf g) p) yes) (base-is g p _ (v .opened) (c .before .before .before .base .ensures))
 
 first-shown : tie.Need-returns-3
 first-shown c =
-    let a = c .before .before .before .before .before .before .before .before .before .before .before .before .before .before .before .before .before .before .before .before .before .args in
+    let a = c .before .before .before .before .before .before .before .before .before .before .before .before .before .before .before .before .before .before .before .before .before .before .args in
     let g = a .game .now in
     let p = a .plan .now in
-    let v = opened (c .before .before .before .before .before .before .before .before .before .before .before) in
+    let v = opened (c .before .before .before .before .before .before .before .before .before .before .before .before) in
     let no = sym (judged-as g p _ (v .opened) (v .values) (c .before .before .before .before .before .before .before .before .before .judge .ensures)) ∙ c .before .before .before .before .before .before .before .judged .given .1 in
-    strategy-given g p (a .moves .now) _ (v .opened) one _ (first-deviates g p _ _ no (c .before .before .before .before .before .if1 .taken)) (v .best1) (c .before .before .show .ensures .0) (c .before .before .show .ensures .1)
+    strategy-given g p (a .moves .now) _ (v .opened) one _ _ (first-deviates g p _ _ no (c .before .before .before .before .before .if1 .taken)) (base-is g p _ (v .opened) (c .before .before .before .before .before .before .before .before .before .before .base .ensures)) (v .best1) (c .before .before .show .ensures)
 
 second-shown : tie.Need-returns-4
 second-shown c =
-    let a = c .before .before .before .before .before .before .before .before .before .before .before .before .before .before .before .before .before .before .before .before .before .args in
+    let a = c .before .before .before .before .before .before .before .before .before .before .before .before .before .before .before .before .before .before .before .before .before .before .args in
     let g = a .game .now in
     let p = a .plan .now in
-    let v = opened (c .before .before .before .before .before .before .before .before .before .before .before) in
+    let v = opened (c .before .before .before .before .before .before .before .before .before .before .before .before) in
     let no = sym (judged-as g p _ (v .opened) (v .values) (c .before .before .before .before .before .before .before .before .before .judge .ensures)) ∙ c .before .before .before .before .before .before .before .judged .given .1 in
-    strategy-given g p (a .moves .now) _ (v .opened) two _ (second-deviates g p _ _ no (c .before .before .before .before .before .if1 .left)) (v .best2) (c .before .before .show2 .ensures .0) (c .before .before .show2 .ensures .1)
-
-judge-requires : tie.Need-judge-requires
-judge-requires c κs =
-    let v = opened (c .before) in
-    judge-asks _ _ _ (v .opened) (v .values)
+    strategy-given g p (a .moves .now) _ (v .opened) two _ _ (second-deviates g p _ _ no (c .before .before .before .before .before .if1 .left)) (base-is g p _ (v .opened) (c .before .before .before .before .before .before .before .before .before .before .base .ensures)) (v .best2) (c .before .before .show2 .ensures)
 
 base-requires : tie.Need-base-requires
 base-requires c κs =
-    let v = opened (c .before .before .before .before) in
+    let v = opened (c .before) in
     base-asks _ _ _ (v .opened)
+
+judge-requires : tie.Need-judge-requires
+judge-requires c κs =
+    let v = opened (c .before .before) in
+    judge-asks _ _ _ (v .opened) (v .values)
 
 show-requires : tie.Need-show-requires
 show-requires c κs =
-    let v = opened (c .before .before .before .before .before .before .before .before) in
+    let v = opened (c .before .before .before .before .before .before .before .before .before) in
     show-asks _ _ _ (v .opened) (omega arith) (v .best1 .long)
 
 show-requires-2 : tie.Need-show-requires-2
 show-requires-2 c κs =
-    let v = opened (c .before .before .before .before .before .before .before .before) in
+    let v = opened (c .before .before .before .before .before .before .before .before .before) in
     show-asks _ _ _ (v .opened) (omega arith) (v .best2 .long)
 
 pub verdict-spec : {M : Type 1} → statement M
@@ -78,10 +78,10 @@ verdict-spec =
     (λ c. search needs)
     (λ c κs. search needs)
     refused
+    base-requires
     judge-requires
     (λ c. search needs)
     (λ c. search needs)
-    base-requires
     accepted
     (λ c. search needs)
     show-requires

@@ -1,8 +1,8 @@
 -- 17 comes first, then 18; with room for the file it is written.
 use borrow.Author.Needs.{needs}
-use Rattle.model.specs.Writing.{GameFields, gameFieldsFit, gameFields}
-use Rattle.writers.proofs.Refusals.{is-fine, has-room}
-use Rattle.writers.proofs.GameFiles.{game-misfit, game-short, game-written}
+use Rattle.model.specs.Writing.{GameFields, gameFields}
+use Rattle.writers.proofs.Refusals.{has-room}
+use Rattle.writers.proofs.GameFiles.{game-fits, game-misfit, game-short, game-written}
 use Rattle.writers.proofs.game.write.Statement.{statement}
 use Rattle.writers.proofs.game.write.Tie as tie
 
@@ -14,30 +14,33 @@ given c =
 
 misfits : tie.Need-returns
 misfits c =
-    let start = c .before .before .before .before .before .before .before .before .before .before .before .before in
-    game-misfit (given start) (start .args .out .now) (c .before .before .fields-fit .ensures) (c .enum-told2 .given .1)
+    let start = c .before .before .before .before .before .before .before .before .before .before .before .before .before .before in
+    game-misfit (given start) (start .args .out .now) (c .before .before .before .before .fields-fit .ensures) (c .before .before .before .check .ensures) (c .before .enum-told2 .given .1) (c .number .ensures)
 
 too-short : tie.Need-returns-2
 too-short c =
-    let start = c .before .before .before .before .before .before .before .before .before .before .before .before .before .before .before in
+    let start = c .before .before .before .before .before .before .before .before .before .before .before .before .before .before .before .before .before in
     game-short (given start) (start .args .out .now)
-    (c .before .before .before .before .before .fields-fit .ensures)
-    (c .before .before .before .enum-told .given .1)
-    (c .before .before .has-room .ensures)
-    (c .enum-told4 .given .1)
+    (c .before .before .before .before .before .before .before .fields-fit .ensures)
+    (c .before .before .before .before .before .before .check .ensures)
+    (c .before .before .before .before .enum-told .given .1)
+    (c .before .before .before .has-room .ensures)
+    (c .before .enum-told4 .given .1)
+    (c .number2 .ensures)
 
 ready : tie.Need-put-game-requires
 ready c κs =
-    let start = c .before .before .before .before .before .before .before .before .before .before .before .before .before .before .before .before in (
-      is-fine (gameFieldsFit (given start)) (c .before .before .before .before .before .before .fields-fit .ensures) (c .before .before .before .before .enum-told .given .1),
+    let start = c .before .before .before .before .before .before .before .before .before .before .before .before .before .before .before .before .before in (
+      game-fits (given start) (start .args .out .now) (c .before .before .before .before .before .before .before .fields-fit .ensures) (c .before .before .before .before .before .before .check .ensures) (c .before .before .before .before .enum-told .given .1),
       has-room (c .before .before .before .has-room .ensures) (c .before .enum-told3 .given .1),
     )
 
 all-written : tie.Need-returns-3
 all-written c =
-    let start = c .before .before .before .before .before .before .before .before .before .before .before .before .before .before .before .before .before .before .before in
+    let start = c .before .before .before .before .before .before .before .before .before .before .before .before .before .before .before .before .before .before .before .before in
     game-written (given start) (start .args .out .now)
-    (c .before .before .before .before .before .before .before .before .before .fields-fit .ensures)
+    (c .before .before .before .before .before .before .before .before .before .before .fields-fit .ensures)
+    (c .before .before .before .before .before .before .before .before .before .check .ensures)
     (c .before .before .before .before .before .before .before .enum-told .given .1)
     (c .before .before .before .before .before .before .has-room .ensures)
     (c .before .before .before .before .enum-told3 .given .1)
@@ -48,8 +51,10 @@ write-spec =
     tie.close
     (tie.spec
     (λ c κs. search needs)
+    (λ c κs. search needs)
     (λ c. search needs)
     (λ c. search needs)
+    (λ c κs. search needs)
     misfits
     (λ c. search needs)
     (λ c. search needs)
@@ -57,6 +62,7 @@ write-spec =
     (λ c κs. search needs)
     (λ c. search needs)
     (λ c. search needs)
+    (λ c κs. search needs)
     too-short
     ready
     (λ c. search needs)

@@ -8,29 +8,32 @@ use Rattle.writers.proofs.plan.write.Tie as tie
 
 misfits : tie.Need-returns
 misfits c =
-    let a = c .before .before .before .before .before .args in
-    plan-misfit (a .d1) (a .d2) (a .weights .now) (a .out .now) (c .before .before .numbers-fit .ensures) (c .enum-told2 .given .1)
+    let a = c .before .before .before .before .before .before .before .args in
+    plan-misfit (a .d1) (a .d2) (a .weights .now) (a .out .now) (c .before .before .before .before .numbers-fit .ensures) (c .before .before .before .check .ensures) (c .before .enum-told2 .given .1) (c .number .ensures)
 
 too-short : tie.Need-returns-2
 too-short c =
-    let a = c .before .before .before .before .before .before .before .before .args in
+    let a = c .before .before .before .before .before .before .before .before .before .before .args in
     plan-short (a .d1) (a .d2) (a .weights .now) (a .out .now)
-    (c .before .before .before .before .before .numbers-fit .ensures)
-    (c .before .before .before .enum-told .given .1)
-    (c .before .before .has-room .ensures)
-    (c .enum-told4 .given .1)
+    (c .before .before .before .before .before .before .before .numbers-fit .ensures)
+    (c .before .before .before .before .before .before .check .ensures)
+    (c .before .before .before .before .enum-told .given .1)
+    (c .before .before .before .has-room .ensures)
+    (c .before .enum-told4 .given .1)
+    (c .number2 .ensures)
 
 fill-requires : tie.Need-fill-requires
 fill-requires c κs =
-    let a = c .before .before .before .before .before .before .before .before .before .args in
-    let fit = plan-fits (a .d1) (a .d2) (a .weights .now) (c .before .before .before .before .before .before .numbers-fit .ensures) (c .before .before .before .before .enum-told .given .1) in
+    let a = c .before .before .before .before .before .before .before .before .before .before .args in
+    let fit = plan-fits (a .d1) (a .d2) (a .weights .now) (c .before .before .before .before .before .before .before .numbers-fit .ensures) (c .before .before .before .before .before .before .check .ensures) (c .before .before .before .before .enum-told .given .1) in
     (omega arith, omega arith, has-room (c .before .before .before .has-room .ensures) (c .before .enum-told3 .given .1))
 
 all-written : tie.Need-returns-3
 all-written c =
-    let a = c .before .before .before .before .before .before .before .before .before .before .before .before .args in
+    let a = c .before .before .before .before .before .before .before .before .before .before .before .before .before .args in
     plan-written (a .d1) (a .d2) (a .weights .now) (a .out .now)
-    (c .before .before .before .before .before .before .before .before .before .numbers-fit .ensures)
+    (c .before .before .before .before .before .before .before .before .before .before .numbers-fit .ensures)
+    (c .before .before .before .before .before .before .before .before .before .check .ensures)
     (c .before .before .before .before .before .before .before .enum-told .given .1)
     (c .before .before .before .before .before .before .has-room .ensures)
     (c .before .before .before .before .enum-told3 .given .1)
@@ -41,8 +44,10 @@ write-spec =
     tie.close
     (tie.spec
     (λ c κs. search needs)
+    (λ c κs. search needs)
     (λ c. search needs)
     (λ c. search needs)
+    (λ c κs. search needs)
     misfits
     (λ c. search needs)
     (λ c. search needs)
@@ -50,6 +55,7 @@ write-spec =
     (λ c κs. search needs)
     (λ c. search needs)
     (λ c. search needs)
+    (λ c κs. search needs)
     too-short
     fill-requires
     (λ c. search needs)

@@ -1,3 +1,0 @@
-pub mod Denominators
-pub mod Refusals
-pub mod Rooms

@@ -1,0 +1,72 @@
+-- The general law of a call: where its rows are decided, it answers as demand 1 says.
+use Prim.Native.Nat.{ℕ, zero, suc}
+use mathlib.Core.Path.{_≡_, refl, sym, ap, _∙_, subst}
+use mathlib.Core.Bool.{true, false, cond}
+use mathlib.Core.List.{List, [], _∷_}
+use native.Mathlib.Omega.{arith}
+use Rattle.model.proofs.Decisions.{Decides, itself-iff, leb-iff, and-iff}
+use Rattle.model.proofs.Reasons.{room-fails}
+use Rattle.model.specs.Rows.{of, refusal, First}
+use Rattle.model.specs.Call.{given, refused, Buffers, lengths, longEnough, RoomFor, afterCall, afterAll, Lent, Call, Outcome, outcome, answerOf, roomRows, allRows, callRefusal, run}
+use Rattle.model.specs.Demand1.{Clause}
+use Rattle.model.proofs.Rows.{Decided, Any, decided-one, pass-of, decided-of, refusal-after, decided-append, taken-iff, first-iff}
+
+-- room for results
+room-iff : (results rooms : List ℕ) → Decides (longEnough results rooms) (RoomFor results rooms)
+room-iff [] rooms = itself-iff true
+room-iff (n ∷ results) [] = itself-iff false
+room-iff (n ∷ results) (r ∷ rooms) = and-iff (leb-iff n r) (room-iff results rooms)
+
+-- a refusal leaves every buffer as it was
+pub all-kept : (shape : List (Type 0)) (k : ℕ) (results buffers : Buffers shape) → afterAll shape (suc k) results buffers ≡ buffers
+unfolding afterCall
+all-kept [] k results buffers = refl
+all-kept (A ∷ shape) k results buffers = ap (λ (b : Buffers shape). (buffers .0, b)) (all-kept shape k (results .1) (buffers .1))
+
+module _ {I R : Type 0} {shape : List (Type 0)} (c : Call I shape R) where
+  -- a good input, with buffers long enough
+  abbrev pub GoodIn : (I → Type 0) → Lent I (Buffers shape) → Type 0
+  GoodIn Good x = Good (x .input) × RoomFor (lengths shape (c .written (x .input))) (lengths shape (x .buffers))
+
+  pub all-decided : {Good : I → Type 0} → Decided Any (c .rows) Good → Decided Any (allRows c) (GoodIn Good)
+  unfolding allRows roomRows
+  all-decided d =
+      decided-append (of (λ x. x .input) (c .rows)) _ (decided-of (λ (x : Lent I (Buffers shape)). x .input) (c .rows) d)
+      (decided-one 18 _ tt (λ x k. room-iff (lengths shape (c .written (x .input))) (lengths shape (x .buffers))) (λ x k. room-fails (lengths shape (c .written (x .input))) (lengths shape (x .buffers))))
+
+  module _ {Good : I → Type 0} (d : Decided Any (c .rows) Good) (i : I) (b : Buffers shape) where
+    abbrev lent : Lent I (Buffers shape)
+    lent = record { input = i; buffers = b }
+
+    takes : Good i → RoomFor (lengths shape (c .written i)) (lengths shape b) → run c i b ≡ outcome (given (c .result i)) (afterAll shape 0 (c .written i) b)
+    unfolding run callRefusal
+    takes h r = rw (taken-iff (all-decided d) lent .0 (h, r))
+
+    refuses : ¬ (Good i × RoomFor (lengths shape (c .written i)) (lengths shape b)) → (k : ℕ) × First (allRows c) lent k × ¬ (k ≡ 0) × (run c i b ≡ outcome (refused k) b)
+    unfolding run callRefusal
+    refuses n = go (refusal (allRows c) lent) refl
+      where
+        go : (k : ℕ) → refusal (allRows c) lent ≡ k → (k : ℕ) × First (allRows c) lent k × ¬ (k ≡ 0) × (outcome {shape = shape} {R = R} (answerOf (refusal (allRows c) lent) (c .result i)) (afterAll shape (refusal (allRows c) lent) (c .written i) b) ≡ outcome {shape = shape} {R = R} (refused k) b)
+        go zero e = absurd (n (taken-iff (all-decided d) lent .1 e))
+        go (suc k) e = (suc k, subst (First (allRows c) lent) e (first-iff (all-decided d) lent), λ z. omega arith, rw (e, all-kept shape k (c .written i) b))
+
+  -- what demand 1 says of the call
+  pub clause : {Good : I → Type 0} → Decided Any (c .rows) Good → Clause c Good
+  clause d = record { taken = takes d; other = refuses d }
+
+-- what a call leaves of a good input: 18 alone decides, by the result and what is written
+abbrev pub leftIn : {R : Type 0} {shape : List (Type 0)} → (result : R) → (results buffers : Buffers shape) → Outcome shape R
+leftIn {shape = shape} result results buffers =
+    let k : ℕ = cond (longEnough (lengths shape results) (lengths shape buffers)) 0 18 in
+    outcome (answerOf k result) (afterAll shape k results buffers)
+
+pub good-run : {I R : Type 0} {shape : List (Type 0)} {Good : I → Type 0} (c : Call I shape R) → Decided Any (c .rows) Good → (i : I) (b : Buffers shape) → Good i → run c i b ≡ leftIn {shape = shape} (c .result i) (c .written i) b
+unfolding run callRefusal allRows roomRows refusal
+good-run {I = I} {shape = shape} c d i b h =
+    let lent : Lent I (Buffers shape) = record { input = i; buffers = b } in
+    rw (refusal-after (of (λ x. x .input) (c .rows)) (roomRows c) lent (pass-of (λ (x : Lent I (Buffers shape)). x .input) (c .rows) lent .0 (d .good i tt .0 h)))
+
+-- two calls with the same result, and the same written to the buffers, do the same for good inputs
+pub same-run : {I J R : Type 0} {shape : List (Type 0)} {Good : I → Type 0} {Fine : J → Type 0} (c : Call I shape R) (e : Call J shape R) → Decided Any (c .rows) Good → Decided Any (e .rows) Fine → (i : I) (j : J) (b : Buffers shape) → Good i → Fine j → c .result i ≡ e .result j → c .written i ≡ e .written j → run c i b ≡ run e j b
+same-run {shape = shape} c e dc de i j b good fine result written =
+    good-run c dc i b good ∙ (λ k. leftIn {shape = shape} (result k) (written k) b) ∙ sym (good-run e de j b fine)

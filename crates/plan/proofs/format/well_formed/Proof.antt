@@ -1,0 +1,35 @@
+-- The header's tests and the filling's are the model's; the filling is less than a byte, so its field can be read.
+use borrow.Author.Needs.{needs}
+use mathlib.Core.Path.{sym, _∙_}
+use Rattle.plan.proofs.Forms.{formed-fine, formed-filled, formed-wrong}
+use Rattle.plan.proofs.format.well_formed.Statement.{statement}
+use Rattle.plan.proofs.format.well_formed.Tie as tie
+
+fine : tie.Need-returns
+fine c g e =
+    let s = c .before .before .before .before .before in
+    formed-fine g _ _ e _ (s .pre .0) (sym (c .before .before .before .header-right .ensures) ∙ c .before .before .if1 .taken) (sym (c .before .field .ensures .0) ∙ c .if2 .taken)
+
+filled : tie.Need-returns-2
+filled c g e =
+    let s = c .before .before .before .before .before in
+    formed-filled g _ _ e _ (s .pre .0) (λ z. c .if2 .left (c .before .field .ensures .0 ∙ z))
+
+wrong : tie.Need-returns-3
+wrong c g e =
+    let s = c .before .before .before in
+    formed-wrong g _ _ e _ (s .pre .0) (sym (c .before .header-right .ensures) ∙ c .if1 .left)
+
+pub well-formed-spec : {M : Type 1} → statement M
+well-formed-spec =
+    tie.close
+    (tie.spec
+    (λ c κs. search needs)
+    (λ c. search needs)
+    (λ c. search needs)
+    (λ c. search needs)
+    (λ c. search needs)
+    (λ c κs. search needs)
+    fine
+    filled
+    wrong)

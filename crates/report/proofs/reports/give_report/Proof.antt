@@ -1,0 +1,32 @@
+-- The report is put into a buffer that is long enough, and given from there.
+use Prim.Native.Nat.{_≤_}
+use mathlib.Core.Path.{sym}
+use native.Mathlib.Omega.{arith}
+use borrow.Author.Needs.{needs}
+use lib.ListN.{length}
+use lib.Seq.{length-take-le}
+use Rattle.text.proofs.Puts.{put-read}
+use Rattle.report.proofs.reports.give_report.Statement.{statement}
+use Rattle.report.proofs.reports.give_report.Tie as tie
+
+write-requires : tie.Need-write-requires
+write-requires c κs = let p = c .before .before .before .before .before .pre in (p .0, record { fits = omega (arith, p .1) })
+
+-- the report's end is in the buffer
+within : (c : tie.After-write) → c .write .result ≤ length (c .write .last .1 .1 .1 .1 .1 .1 .0)
+within c = omega (arith, c .write .kept, c .write .ensures .place, c .before .before .before .before .before .before .pre .1)
+
+returns : tie.Need-returns
+returns c = rw (put-read (c .before .before .before .before .before .before .write .ensures)) at (c .before .before .give .ensures)
+
+pub give-report-spec : {M : Type 1} → statement M
+give-report-spec =
+    tie.close
+    (tie.spec
+    (λ c. search needs)
+    write-requires
+    (λ c. within (c .before))
+    (λ c. sym (length-take-le _ _ (within (c .before .before))))
+    (λ c κs. search needs)
+    (λ c. search needs)
+    returns)
