@@ -5,8 +5,10 @@ use mathlib.Core.Bool.{Bool, true, false}
 use mathlib.Core.List.{List}
 use native.Mathlib.Omega.{arith}
 use lib.Dec.{T}
+use lib.ListN.{length, take, drop}
+use lib.Seq.{take-append-seam}
 use Rattle.model.specs.Rows.{refusal}
-use Rattle.model.specs.Call.{Answer, given, refused, Buffers, lengths, longEnough, afterAll, Call, Outcome, outcome, run}
+use Rattle.model.specs.Call.{Answer, given, refused, Buffers, lengths, longEnough, afterCall, afterAll, Call, Outcome, outcome, run}
 use Rattle.model.proofs.Rows.{named}
 use Rattle.checks.proofs.Chains.{Refuses, call-refuses, call-room, inRoom}
 
@@ -54,3 +56,8 @@ module _ {I R : Type 0} {shape : List (Type 0)} (c : Call I shape R) (some : T (
           let y : _≡_ {A = ℕ} 0 1 = cc in
           absurd (omega arith)
       go (suc n) z = let same : x ≡ refused (suc n) = refuses z e in let is : k ≡ suc n = cc in record { is = z ∙ sym is; some = λ y. omega arith }
+
+-- the front of a buffer after a call
+pub front : {A : Type 0} (count : ℕ) (result buffer after : List A) → length result ≡ count → after ≡ afterCall 0 result buffer → take count after ≡ result
+unfolding afterCall
+front count result buffer after e f = rw (← e, f) (take-append-seam result (drop (length result) buffer))

@@ -1,4 +1,4 @@
-// The entry points, by one name: each family of calls has its crate.
+// Every call by one name: each family of calls has its crate.
 pub use fields::FieldsAnswer;
 pub use fields::game_fields;
 pub use lookups::GameAnswer;

@@ -10,7 +10,7 @@ use Rattle.model.specs.Demand3.{Demand3MetIn}
 use Rattle.model.proofs.calls.Verdict.{demand3-numbers}
 use Rattle.verdict.specs.declared.VerdictAnswer.{VerdictAnswer}
 use Rattle.verdict.specs.Answers.{verdictAnswered}
-use Rattle.ffi.specs.Numbers.{pairValues}
+use Rattle.ffi.specs.Numbers.{none, pairValues}
 
 -- `answered` is what a call's answers are in the model, `numbersOf` which of the numbers that it gives are lent for.
 module _ {A R N : Type 0} (answered : A → Answer R) (numbersOf : R → N) (before : N) where
@@ -21,6 +21,10 @@ module _ {A R N : Type 0} (answered : A → Answer R) (numbersOf : R → N) (bef
   -- the same, of a call to which no buffer is lent
   pub exports-answer : {call : Outcome [] R} {v w : A} {r : ℕ} {n : N} → answered v ≡ call .answer → v ≡ w → r ≡ refusalOf (answered w) → n ≡ numbersAfter numbersOf before (answered w) → leaves r n tt ≡ exported numbersOf before call
   exports-answer e f is lent = exports (ap (λ (a : Answer R). outcome a tt) e) f is lent
+
+-- the same, of a call that gives no number to lend, where its answer's number is returned
+pub exports-number : {shape : List (Type 0)} {R : Type 0} {call : Outcome shape R} {a : Answer R} {r : ℕ} {after : Buffers shape} → outcome a after ≡ call → r ≡ refusalOf a → leaves r tt after ≡ exported none tt call
+exports-number e is = rw is (ap (exported none tt) e)
 
 -- the verdict, and demand 3 for what is exported
 pub exports-verdict : (game plan moves : List ℕ) (before : Numbers) {v w : VerdictAnswer} {r : ℕ} {n : Numbers} {after : List ℕ} → outcome (verdictAnswered v) (after, tt) ≡ verdict game plan moves → v ≡ w → r ≡ refusalOf (verdictAnswered w) → n ≡ numbersAfter numbersOf before (verdictAnswered w) → (leaves r n (after, tt) ≡ verdictNumbers game plan before moves) × Demand3MetIn game plan moves (leaves r n (after, tt))

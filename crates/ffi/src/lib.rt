@@ -1,8 +1,8 @@
-// The entry points for Rust and C: numbers, slices and references alone.
+// The calls for Rust and C: numbers, slices and references alone.
 // A refusal is the result, 0 is none; what is lent for a result keeps what it held where the call refuses.
 // Each is one equation: what it returns, and what the lent numbers and buffers hold then, is the model's call, exported.
 ghost use mathlib.Core.Path.{_≡_};
-ghost use Rattle.model.specs.Writing.{gameFields};
+ghost use Rattle.model.specs.Writing.{gameFields, fieldLists};
 ghost use Rattle.model.specs.Exported.{exported, leaves};
 ghost use Rattle.model.specs.calls.CheckGame.{checkGame};
 ghost use Rattle.model.specs.calls.GameFields as Fields;
@@ -15,7 +15,6 @@ ghost use Rattle.model.specs.calls.RefusalLine.{refusalLine};
 ghost use Rattle.model.specs.calls.WriteGame.{writeGame};
 ghost use Rattle.model.specs.calls.WritePlan.{writePlan};
 ghost use Rattle.model.specs.Demand3.{Demand3MetIn};
-ghost use Rattle.game.specs.Columns.{fieldLists};
 ghost use Rattle.ffi.specs.Numbers.{none, same, counts, denominators, pairValues};
 
 // Checks a game file, and gives N, H and D0.
@@ -74,14 +73,7 @@ pub extern "C" fn desk_game_fields(
         payoffs1,
         payoffs2,
     );
-    match answer {
-        entry::FieldsAnswer::Given {
-            nodes: _,
-            sets: _,
-            root_weight: _,
-        } => 0,
-        entry::FieldsAnswer::Refused(number) => number,
-    }
+    fields::refusal(answer)
 }
 
 // Gives all weights of a plan in file order, and D1 and D2.
@@ -226,7 +218,7 @@ pub extern "C" fn desk_report(game: &[u8], plan: &[u8], out: &mut [u8], size: &m
     }
 }
 
-// Writes the line that tells a refusal, and gives its length.
+// Writes the line that names a refusal, and gives its length.
 #[no_mangle]
 pub extern "C" fn desk_refusal_line(number: u64, out: &mut [u8], size: &mut u64) -> u64
     ensures { λ r. ⌜ leaves r (now (size .exit)) (now (out .exit), tt) ≡ exported same (now (size .entry)) (refusalLine number (now (out .entry))) ⌝ }

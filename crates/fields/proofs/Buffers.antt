@@ -6,7 +6,7 @@ use mathlib.Core.List.{List, [], _∷_}
 use Rattle.algebra.proofs.Lists.{length-listTo}
 use Rattle.model.specs.Game.{gameOf, one, two}
 use Rattle.model.specs.Call.{Answer, given, refused, lengths, longEnough, afterAll, outcome}
-use Rattle.model.specs.Writing.{GameFields, fieldsOf, payoffField, playerField, setField, movesField}
+use Rattle.model.specs.Writing.{GameFields, fieldsOf, payoffField, playerField, setField, movesField, fieldLists}
 use Rattle.model.specs.calls.CheckGame.{Counts}
 use Rattle.model.specs.calls.GameFields.{shape, lists, call, gameFields}
 use Rattle.model.proofs.Checks.{game-named}
@@ -16,9 +16,9 @@ use Rattle.checks.specs.Checked.{checkedOf, numberOf}
 use Rattle.checks.proofs.Chains.{fine-holds, call-refuses, call-short, call-gives}
 use Rattle.checks.proofs.Files.{game-refuses, game-fine}
 use Rattle.checks.proofs.Rooms.{split, over-after}
-use Rattle.game.specs.declared.Header.{Header}
-use Rattle.game.specs.Columns.{fieldLists, Room, filled}
-use Rattle.game.proofs.Headers.{header-nodes, header-sets, header-weight}
+use Rattle.records.specs.declared.Header.{Header}
+use Rattle.columns.specs.Columns.{Room, filled}
+use Rattle.records.proofs.Headers.{header-nodes, header-sets, header-weight}
 use Rattle.game.proofs.Outcomes.{Opened, Sent}
 
 module _ (bytes : List ℕ) (b : GameFields) where

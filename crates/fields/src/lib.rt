@@ -1,10 +1,11 @@
 // All fields of a game into lent buffers, one a field.
 ghost use mathlib.Core.Path.{_≡_};
 ghost use mathlib.Core.List.{[], _∷_};
+ghost use Rattle.model.specs.Writing.{fieldLists};
 ghost use Rattle.model.specs.Call.{longEnough, outcome};
+ghost use Rattle.model.specs.Exported.{refusalOf};
 ghost use Rattle.model.specs.calls.GameFields.{lists, gameFields};
 ghost use Rattle.checks.specs.Checked.{checkedOf};
-ghost use Rattle.game.specs.Columns.{fieldLists};
 ghost use Rattle.fields.specs.Answers.{fieldsAnswered};
 use checks::Checked;
 
@@ -16,6 +17,20 @@ pub enum FieldsAnswer {
         root_weight: u64,
     },
     Refused(u64),
+}
+
+// The number of an answer's refusal, or 0.
+pub fn refusal(answer: FieldsAnswer) -> u64
+    ensures { λ r. ⌜ r ≡ refusalOf (fieldsAnswered answer) ⌝ }
+{
+    match answer {
+        FieldsAnswer::Given {
+            nodes: _,
+            sets: _,
+            root_weight: _,
+        } => 0,
+        FieldsAnswer::Refused(number) => number,
+    }
 }
 
 // Check 18: whether the buffers have room for `h` sets and `n` nodes, by their lengths alone.
@@ -86,7 +101,7 @@ pub fn game_fields(
     let Checked::Fine = c18 else {
         return FieldsAnswer::Refused(checks::number(c18));
     };
-    game::fields::fill_all(
+    columns::fill_all(
         game,
         header,
         set_players,

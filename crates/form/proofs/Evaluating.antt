@@ -11,8 +11,8 @@ use Rattle.model.specs.Rules.{GameRules}
 use Rattle.model.proofs.Table.{ByNumber}
 use Rattle.model.specs.Writing.{entry}
 use Rattle.model.proofs.Budget.{GameLimits}
-use Rattle.game.specs.declared.SequenceCounts.{SequenceCounts}
-use Rattle.game.specs.Sets.{countsOf}
+use Rattle.sequences.specs.declared.SequenceCounts.{SequenceCounts}
+use Rattle.sequences.specs.Sets.{countsOf}
 use Rattle.plan.specs.Weights.{planByNumber, pairByNumber}
 use Rattle.gather.proofs.LeafColumns.{ofPlayer}
 use Rattle.gather.specs.Leaves.{Gathered}

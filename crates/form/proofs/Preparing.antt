@@ -12,7 +12,7 @@ use Rattle.model.specs.Sequences.{extended, leading, moveNumber, sequenceNumber
 use Rattle.model.specs.Writing.{entry, playerField}
 use Rattle.model.proofs.Sequences.{number-extended}
 use Rattle.model.proofs.Tree.{bit-tells, owner}
-use Rattle.game.specs.Sets.{firstSequence}
+use Rattle.sequences.specs.Sets.{firstSequence}
 use Rattle.slices.specs.Chains.{firstFrom, nextOf}
 use Rattle.gather.specs.Sets.{ownLead, SetsGathered}
 use Rattle.form.specs.Prepared.{ownLeadNumber, PlayerChains, Prepared}

@@ -5,7 +5,7 @@ use mathlib.Core.List.{List}
 use Rattle.algebra.specs.Arrays.{Holds}
 use Rattle.model.specs.Game.{Game, Player, owns}
 use Rattle.model.specs.Sequences.{firstNode, sequenceCount, leadingNumber}
-use Rattle.game.specs.Sets.{firstSequence}
+use Rattle.sequences.specs.Sets.{firstSequence}
 use Rattle.slices.specs.Chains.{firstFrom, nextOf}
 
 -- where set h is p's, the number of the sequence that leads to it; else the number of his sequences, which none has

@@ -8,13 +8,13 @@ ghost use Rattle.model.specs.Sequences.{leadingNumber, sequenceCount};
 ghost use Rattle.model.specs.BestResponse.{bestCount};
 ghost use Rattle.model.specs.Writing.{entry, playerField};
 ghost use Rattle.model.specs.Rules.{GameRules};
-ghost use Rattle.game.specs.Records.{headerOf};
+ghost use Rattle.records.specs.Records.{headerOf};
 ghost use Rattle.plan.specs.Weights.{planByNumber, Weights};
 ghost use Rattle.gather.specs.Leaves.{PlayerLeaves};
 ghost use Rattle.gather.specs.Sets.{SetsGathered};
 ghost use Rattle.form.specs.BestMoves.{ownBestMove};
 ghost use Rattle.form.specs.Prepared.{PlayerChains, Prepared};
-use game::Header;
+use records::Header;
 
 // What is prepared for a player, once a game: by set the sequence of his that leads to it, and the chains of the sets that each of his sequences leads to.
 // The contract speaks of the game; no byte of it is read.

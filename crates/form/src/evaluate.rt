@@ -9,8 +9,8 @@ ghost use Rattle.model.specs.Plan.{pairFits};
 ghost use Rattle.model.specs.Table.{ownNumber};
 ghost use Rattle.model.specs.Writing.{entry};
 ghost use Rattle.model.specs.Rules.{GameRules};
-ghost use Rattle.game.specs.Records.{headerOf};
-ghost use Rattle.game.specs.Sets.{countsOf};
+ghost use Rattle.records.specs.Records.{headerOf};
+ghost use Rattle.sequences.specs.Sets.{countsOf};
 ghost use Rattle.plan.specs.Weights.{planByNumber, pairByNumber, Small};
 ghost use Rattle.gather.specs.Leaves.{Gathered};
 ghost use Rattle.gather.specs.Numbers.{OwnNumbers};
@@ -19,8 +19,8 @@ ghost use Rattle.gather.specs.Sets.{SetsGathered};
 ghost use Rattle.form.specs.Values.{valuesOf, Evaluated, PairWeights};
 use super::Values;
 use super::best;
-use game::Header;
-use game::SequenceCounts;
+use records::Header;
+use sequences::SequenceCounts;
 
 // On what is gathered of the game: its leaves and its sets.
 fn of_gathered(

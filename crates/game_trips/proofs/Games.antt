@@ -6,17 +6,16 @@ use mathlib.Core.List.{List, [], _∷_}
 use native.Mathlib.Omega.{arith}
 use lib.Dec.{T}
 use lib.IntN.{ℤ}
-use lib.ListN.{length, take, drop}
-use lib.Seq.{take-append-seam}
+use lib.ListN.{length, take}
 use borrow.Author.Tests.{le-leb}
 use Rattle.algebra.proofs.Tests.{cond-yes}
 use Rattle.algebra.proofs.Lists.{length-listTo}
 use Rattle.model.specs.Game.{gameOf, one, two}
-use Rattle.model.specs.Writing.{GameFields, gameFields, setCount, nodeCount, playerField, setField, movesField, payoffField, fieldsOf, gameBytes, gameFieldsFit}
+use Rattle.model.specs.Writing.{GameFields, gameFields, setCount, nodeCount, playerField, setField, movesField, payoffField, fieldsOf, gameBytes, gameFieldsFit, fieldLists}
 use Rattle.model.specs.Demand2.{IsBytes}
 use Rattle.model.specs.Rows.{of, refusal}
 use Rattle.model.specs.Checks.{gameRows}
-use Rattle.model.specs.Call.{given, refused, Buffers, lengths, longEnough, afterCall, outcome}
+use Rattle.model.specs.Call.{given, refused, Buffers, lengths, longEnough, Outcome, outcome}
 use Rattle.model.specs.Exported.{refusalOf}
 use Rattle.model.specs.calls.CheckGame as CheckGame
 use Rattle.model.specs.calls.CheckGame.{Counts}
@@ -33,15 +32,15 @@ use Rattle.model.proofs.Checks.{game-named, game-decided}
 use Rattle.model.proofs.calls.WriteGame.{fit-decided}
 use Rattle.model.proofs.calls.RereadGame.{reread-decided}
 use Rattle.checks.proofs.Chains.{Refuses, begin, passes-all, stops-in, refusal-of, call-refuses, same-run}
-use Rattle.game.specs.Columns.{fieldLists, Room}
-use Rattle.game.proofs.NodeTests.{few-sets}
+use Rattle.columns.specs.Columns.{Room}
+use Rattle.records.proofs.Reading.{few-sets}
 use Rattle.writers.specs.declared.WriteAnswer.{WriteAnswer}
 use Rattle.writers.specs.declared.WriteAnswer.the-variants.{Written, Refused}
 use Rattle.writers.specs.Answers.{writeAnswered}
 use Rattle.fields.specs.declared.FieldsAnswer.{FieldsAnswer}
 use Rattle.fields.specs.declared.FieldsAnswer.the-variants as Fields
 use Rattle.fields.specs.Answers.{fieldsAnswered}
-use Rattle.checks.proofs.Runs.{Gave, gave, not-gave}
+use Rattle.checks.proofs.Runs.{Gave, gave, not-gave, front}
 
 -- buffers of 4,095 entries have room for any game's fields
 roomy : (game : List ℕ) (b : GameFields) → Room 4095 4095 b → longEnough (lengths shape (lists (fieldsOf (gameOf game)))) (lengths shape (lists b)) ≡ true
@@ -81,23 +80,22 @@ rewrite-refused game out {r} {k} {m} {b0 = b0} {b1 = b1} {b2 = b2} {b3 = b3} {b4
     let s : Refuses gameRows game k = not-gave GameFields.call game-named game (lists lent) e (ap fieldsAnswered f) (λ z. roomy game lent L) in
     rw (g, f) (sym (call-refuses RewriteGame.call game-named game (out, tt) s))
 
+-- D0, and as many entries of the buffers as are read
+abbrev pub fronts : (d h n : ℕ) → Buffers shape → GameFields
+fronts d h n a = gameFields d (take h (a .0)) (take h (a .1 .0)) (take n (a .1 .1 .0)) (take n (a .1 .1 .1 .0)) (take n (a .1 .1 .1 .1 .0)) (take n (a .1 .1 .1 .1 .1 .0)) (take n (a .1 .1 .1 .1 .1 .1 .0)) (take n (a .1 .1 .1 .1 .1 .1 .1 .0)) (take n (a .1 .1 .1 .1 .1 .1 .1 .1 .0)) (take n (a .1 .1 .1 .1 .1 .1 .1 .1 .1 .0))
+
 -- What reading gives.
-pub record Read (game : List ℕ) (h n : ℕ) (t : GameFields) : Type 0 where
+pub record Read (game : List ℕ) (d h n : ℕ) (after : Buffers shape) : Type 0 where
   pub accepted : refusal gameRows game ≡ 0
   pub few-sets-read : h ≤ 4095
   pub few-nodes-read : n ≤ 4095
-  pub fields : t ≡ fieldsOf (gameOf game)
+  pub fields : fronts d h n after ≡ fieldsOf (gameOf game)
 
--- the front of a buffer after a call
-front : {A : Type 0} (count : ℕ) (result buffer after : List A) → length result ≡ count → after ≡ afterCall 0 result buffer → take count after ≡ result
-unfolding afterCall
-front count result buffer after e f = rw (← e, f) (take-append-seam result (drop (length result) buffer))
-
-pub read-given : (game b0 b1 b2 b3 b4 b5 b6 b7 : List ℕ) (b8 b9 : List ℤ) {r : FieldsAnswer} {d h n : ℕ} {a0 a1 a2 a3 a4 a5 a6 a7 : List ℕ} {a8 a9 : List ℤ} → outcome (fieldsAnswered r) (lists (fieldLists a0 a1 a2 a3 a4 a5 a6 a7 a8 a9)) ≡ GameFields.gameFields game (lists (fieldLists b0 b1 b2 b3 b4 b5 b6 b7 b8 b9)) → r ≡ Fields.Given n h d → Read game h n (gameFields d (take h a0) (take h a1) (take n a2) (take n a3) (take n a4) (take n a5) (take n a6) (take n a7) (take n a8) (take n a9))
+pub read-given : (game : List ℕ) (b : Buffers shape) {after : Buffers shape} {r : FieldsAnswer} {d h n : ℕ} → outcome (fieldsAnswered r) after ≡ GameFields.gameFields game b → r ≡ Fields.Given n h d → Read game d h n after
 unfolding GameFields.call fieldsOf
-read-given game b0 b1 b2 b3 b4 b5 b6 b7 b8 b9 {r} {d} {h} {n} {a0} {a1} {a2} {a3} {a4} {a5} {a6} {a7} {a8} {a9} e f =
+read-given game b {after} {r} {d} {h} {n} e f =
     let g = gameOf game in
-    let G : Gave GameFields.call game-named game (lists (fieldLists b0 b1 b2 b3 b4 b5 b6 b7 b8 b9)) (record { nodes = n; sets = h; rootWeight = d }) (lists (fieldLists a0 a1 a2 a3 a4 a5 a6 a7 a8 a9)) = gave GameFields.call game-named game (lists (fieldLists b0 b1 b2 b3 b4 b5 b6 b7 b8 b9)) e (ap fieldsAnswered f) in
+    let G : Gave GameFields.call game-named game b (record { nodes = n; sets = h; rootWeight = d }) after = gave GameFields.call game-named game b e (ap fieldsAnswered f) in
     let nn : n ≡ g .nodes = ap (λ (c : Counts). c .nodes) (G .result) in
     let hh : h ≡ g .sets = ap (λ (c : Counts). c .sets) (G .result) in
     record {
@@ -106,16 +104,16 @@ read-given game b0 b1 b2 b3 b4 b5 b6 b7 b8 b9 {r} {d} {h} {n} {a0} {a1} {a2} {a3
       few-nodes-read = omega (arith, nn, game-limits game .nodes);
       fields = λ i. record {
         rootWeight = ap (λ (c : Counts). c .rootWeight) (G .result) i;
-        setPlayers = front h (fieldsOf g .setPlayers) b0 a0 (length-listTo (g .sets) (playerField g) ∙ sym hh) (ap (λ (x : Buffers shape). x .0) (G .buffers)) i;
-        setMoves = front h (fieldsOf g .setMoves) b1 a1 (length-listTo (g .sets) (g .setMoves) ∙ sym hh) (ap (λ (x : Buffers shape). x .1 .0) (G .buffers)) i;
-        kinds = front n (fieldsOf g .kinds) b2 a2 (length-listTo (g .nodes) (g .kind) ∙ sym nn) (ap (λ (x : Buffers shape). x .1 .1 .0) (G .buffers)) i;
-        parents = front n (fieldsOf g .parents) b3 a3 (length-listTo (g .nodes) (g .parent) ∙ sym nn) (ap (λ (x : Buffers shape). x .1 .1 .1 .0) (G .buffers)) i;
-        moves = front n (fieldsOf g .moves) b4 a4 (length-listTo (g .nodes) (g .move) ∙ sym nn) (ap (λ (x : Buffers shape). x .1 .1 .1 .1 .0) (G .buffers)) i;
-        weights = front n (fieldsOf g .weights) b5 a5 (length-listTo (g .nodes) (g .weight) ∙ sym nn) (ap (λ (x : Buffers shape). x .1 .1 .1 .1 .1 .0) (G .buffers)) i;
-        nodeSets = front n (fieldsOf g .nodeSets) b6 a6 (length-listTo (g .nodes) (setField g) ∙ sym nn) (ap (λ (x : Buffers shape). x .1 .1 .1 .1 .1 .1 .0) (G .buffers)) i;
-        chanceMoves = front n (fieldsOf g .chanceMoves) b7 a7 (length-listTo (g .nodes) (movesField g) ∙ sym nn) (ap (λ (x : Buffers shape). x .1 .1 .1 .1 .1 .1 .1 .0) (G .buffers)) i;
-        payoffs1 = front n (fieldsOf g .payoffs1) b8 a8 (length-listTo (g .nodes) (payoffField g one) ∙ sym nn) (ap (λ (x : Buffers shape). x .1 .1 .1 .1 .1 .1 .1 .1 .0) (G .buffers)) i;
-        payoffs2 = front n (fieldsOf g .payoffs2) b9 a9 (length-listTo (g .nodes) (payoffField g two) ∙ sym nn) (ap (λ (x : Buffers shape). x .1 .1 .1 .1 .1 .1 .1 .1 .1 .0) (G .buffers)) i;
+        setPlayers = front h (fieldsOf g .setPlayers) (b .0) (after .0) (length-listTo (g .sets) (playerField g) ∙ sym hh) (ap (λ (x : Buffers shape). x .0) (G .buffers)) i;
+        setMoves = front h (fieldsOf g .setMoves) (b .1 .0) (after .1 .0) (length-listTo (g .sets) (g .setMoves) ∙ sym hh) (ap (λ (x : Buffers shape). x .1 .0) (G .buffers)) i;
+        kinds = front n (fieldsOf g .kinds) (b .1 .1 .0) (after .1 .1 .0) (length-listTo (g .nodes) (g .kind) ∙ sym nn) (ap (λ (x : Buffers shape). x .1 .1 .0) (G .buffers)) i;
+        parents = front n (fieldsOf g .parents) (b .1 .1 .1 .0) (after .1 .1 .1 .0) (length-listTo (g .nodes) (g .parent) ∙ sym nn) (ap (λ (x : Buffers shape). x .1 .1 .1 .0) (G .buffers)) i;
+        moves = front n (fieldsOf g .moves) (b .1 .1 .1 .1 .0) (after .1 .1 .1 .1 .0) (length-listTo (g .nodes) (g .move) ∙ sym nn) (ap (λ (x : Buffers shape). x .1 .1 .1 .1 .0) (G .buffers)) i;
+        weights = front n (fieldsOf g .weights) (b .1 .1 .1 .1 .1 .0) (after .1 .1 .1 .1 .1 .0) (length-listTo (g .nodes) (g .weight) ∙ sym nn) (ap (λ (x : Buffers shape). x .1 .1 .1 .1 .1 .0) (G .buffers)) i;
+        nodeSets = front n (fieldsOf g .nodeSets) (b .1 .1 .1 .1 .1 .1 .0) (after .1 .1 .1 .1 .1 .1 .0) (length-listTo (g .nodes) (setField g) ∙ sym nn) (ap (λ (x : Buffers shape). x .1 .1 .1 .1 .1 .1 .0) (G .buffers)) i;
+        chanceMoves = front n (fieldsOf g .chanceMoves) (b .1 .1 .1 .1 .1 .1 .1 .0) (after .1 .1 .1 .1 .1 .1 .1 .0) (length-listTo (g .nodes) (movesField g) ∙ sym nn) (ap (λ (x : Buffers shape). x .1 .1 .1 .1 .1 .1 .1 .0) (G .buffers)) i;
+        payoffs1 = front n (fieldsOf g .payoffs1) (b .1 .1 .1 .1 .1 .1 .1 .1 .0) (after .1 .1 .1 .1 .1 .1 .1 .1 .0) (length-listTo (g .nodes) (payoffField g one) ∙ sym nn) (ap (λ (x : Buffers shape). x .1 .1 .1 .1 .1 .1 .1 .1 .0) (G .buffers)) i;
+        payoffs2 = front n (fieldsOf g .payoffs2) (b .1 .1 .1 .1 .1 .1 .1 .1 .1 .0) (after .1 .1 .1 .1 .1 .1 .1 .1 .1 .0) (length-listTo (g .nodes) (payoffField g two) ∙ sym nn) (ap (λ (x : Buffers shape). x .1 .1 .1 .1 .1 .1 .1 .1 .1 .0) (G .buffers)) i;
       };
     }
 
@@ -125,12 +123,19 @@ unfolding WriteGame.rows refusal
 taken t fit = cond-yes {A = ℕ} (gameFieldsFit t) 0 17 fit
 
 -- the writer takes what is read, and writes the file's own bytes
-pub rewrite-given : (game out : List ℕ) → IsBytes game → {h n : ℕ} {t : GameFields} → Read game h n t → WriteGame.writeGame t out ≡ RewriteGame.rewriteGame game out
+pub rewrite-given : (game out : List ℕ) → IsBytes game → {d h n : ℕ} {after : Buffers shape} → Read game d h n after → {h' n' : ℕ} → h' ≡ h → n' ≡ n → {o : Outcome (ℕ ∷ []) ℕ} → o ≡ WriteGame.writeGame (fronts d h' n' after) out → o ≡ RewriteGame.rewriteGame game out
 unfolding WriteGame.call WriteGame.rows RewriteGame.call
-rewrite-given game out bytes R =
+rewrite-given game out bytes R hh nn e =
     let t = fieldsOf (gameOf game) in
     let (fit, same) = game-file-trip game bytes (taken-iff game-decided game .1 (R .accepted)) in
-    rw (R .fields) (same-run WriteGame.call RewriteGame.call tt game-named t game (out, tt) (taken t fit ∙ sym (R .accepted)) (λ e. (ap length same, rw same)))
+    e ∙ rw (hh, nn, R .fields) (same-run WriteGame.call RewriteGame.call tt game-named t game (out, tt) (taken t fit ∙ sym (R .accepted)) (λ e. (ap length same, rw same)))
+
+-- as many entries as are read stand in each buffer
+pub fronts-stand : {game : List ℕ} {d h n : ℕ} {after : Buffers shape} → Read game d h n after → {h' n' : ℕ} → h' ≡ h → n' ≡ n → {l0 l1 l2 l3 l4 l5 l6 l7 l8 l9 : ℕ} → l0 ≡ 4095 → l1 ≡ 4095 → l2 ≡ 4095 → l3 ≡ 4095 → l4 ≡ 4095 → l5 ≡ 4095 → l6 ≡ 4095 → l7 ≡ 4095 → l8 ≡ 4095 → l9 ≡ 4095 → (h' ≤ l0) × (h' ≤ l1) × (n' ≤ l2) × (n' ≤ l3) × (n' ≤ l4) × (n' ≤ l5) × (n' ≤ l6) × (n' ≤ l7) × (n' ≤ l8) × (n' ≤ l9)
+fronts-stand R hh nn e0 e1 e2 e3 e4 e5 e6 e7 e8 e9 =
+    let h = R .few-sets-read in
+    let n = R .few-nodes-read in
+    (omega arith, omega arith, omega arith, omega arith, omega arith, omega arith, omega arith, omega arith, omega arith, omega arith)
 
 -- Written, and read back, with a file of the longest legal length to write to.
 module _ (t : GameFields) (l after : List ℕ) (r : WriteAnswer) (e : outcome (writeAnswered r) (after, tt) ≡ WriteGame.writeGame t l) (long : 36860 ≤ length l) where

@@ -4,31 +4,15 @@ ghost use mathlib.Core.Path.{_≡_};
 ghost use Prim.Native.Nat.{_≤_};
 ghost use lib.ListN.{length, take};
 ghost use Rattle.model.specs.Call.{outcome};
-ghost use Rattle.model.specs.Exported.{refusalOf};
-ghost use Rattle.model.specs.Writing.{gameFields};
+ghost use Rattle.model.specs.Writing.{gameFields, fieldLists};
 ghost use Rattle.model.specs.calls.GameFields.{lists};
 ghost use Rattle.model.specs.calls.WriteGame.{writeGame};
 ghost use Rattle.model.specs.calls.RewriteGame.{rewriteGame};
 ghost use Rattle.model.specs.calls.RereadGame.{rereadGame};
-ghost use Rattle.game.specs.Columns.{fieldLists};
 ghost use Rattle.fields.specs.Answers.{fieldsAnswered};
 ghost use Rattle.writers.specs.Answers.{writeAnswered};
 use fields::FieldsAnswer;
 use writers::WriteAnswer;
-
-// The refusal of a game's reader, or 0.
-fn refusal(answer: FieldsAnswer) -> u64
-    ensures { λ r. ⌜ r ≡ refusalOf (fieldsAnswered answer) ⌝ }
-{
-    match answer {
-        FieldsAnswer::Given {
-            nodes: _,
-            sets: _,
-            root_weight: _,
-        } => 0,
-        FieldsAnswer::Refused(number) => number,
-    }
-}
 
 // Writes the first `h` entries of the sets' lists and the first `n` of the nodes'.
 fn write_fronts(
@@ -99,7 +83,7 @@ pub fn rewrite_game(game: &[u8], out: &mut [u8]) -> WriteAnswer
         root_weight,
     } = read
     else {
-        return WriteAnswer::Refused(refusal(read));
+        return WriteAnswer::Refused(fields::refusal(read));
     };
     let h = bits::index(sets);
     let n = bits::index(nodes);

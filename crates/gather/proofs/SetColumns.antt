@@ -13,7 +13,7 @@ use Rattle.model.specs.Sequences.{firstNode, leadingNumber}
 use Rattle.model.specs.Table.{ownNumber}
 use Rattle.model.specs.Writing.{entry, playerField}
 use Rattle.model.specs.Rules.{GameRules}
-use Rattle.game.proofs.Leading.{first-found, leading-is}
+use Rattle.sequences.proofs.Leading.{first-found, leading-is}
 use Rattle.gather.specs.Sets.{leadStored, ownLead}
 
 module _ (players node own1 own2 : List ℕ) (h : ℕ) where

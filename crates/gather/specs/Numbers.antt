@@ -4,7 +4,7 @@ use mathlib.Core.List.{List}
 use Rattle.algebra.specs.Arrays.{Holds}
 use Rattle.model.specs.Game.{Game, one, two}
 use Rattle.model.specs.Table.{ownNumber}
-use Rattle.game.specs.Sets.{firstSequence}
+use Rattle.sequences.specs.Sets.{firstSequence}
 
 -- They stand in three slices: by set that of its first sequence, by node those of player 1's and player 2's own sequences to it.
 pub record OwnNumbers (g : Game) (starts own1 own2 : List ℕ) : Type 0 where

@@ -7,7 +7,7 @@ use Rattle.algebra.specs.Arrays.{Holds}
 use Rattle.model.specs.Game.{Game}
 use Rattle.model.specs.Sequences.{firstNode, leadingNumber}
 use Rattle.model.specs.Writing.{entry, playerField}
-use Rattle.game.specs.Sets.{firstSequence}
+use Rattle.sequences.specs.Sets.{firstSequence}
 
 -- the number of the sequence that leads to set h as the lists give it: the own number of the set's player at the set's first node
 unfoldable pub leadStored : (players node own1 own2 : List ℕ) → ℕ → ℕ

@@ -6,11 +6,11 @@ ghost use lib.ListN.{length, set};
 ghost use Rattle.algebra.specs.Arrays.{placed, Holds};
 ghost use Rattle.model.specs.Game.{gameOf, one, two, nodeAt};
 ghost use Rattle.model.specs.Table.{ownNumber};
-ghost use Rattle.game.specs.Records.{headerOf};
+ghost use Rattle.records.specs.Records.{headerOf};
 ghost use Rattle.gather.specs.Leaves.{leafAt, Gathered};
-use game::Header;
-use game::NodeRecord;
-use game::Payload;
+use records::Header;
+use records::NodeRecord;
+use records::Payload;
 
 // The leaf `node`, whose own sequences have the numbers `own1` and `own2`, into place `at` of each slice.
 fn put_leaf(

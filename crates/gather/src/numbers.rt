@@ -5,11 +5,11 @@ ghost use lib.ListN.{length};
 ghost use Rattle.model.specs.Game.{gameOf, one, two};
 ghost use Rattle.model.specs.Sequences.{sequenceCount};
 ghost use Rattle.model.specs.Rules.{GameRules};
-ghost use Rattle.game.specs.Records.{headerOf};
+ghost use Rattle.records.specs.Records.{headerOf};
 ghost use Rattle.gather.specs.Numbers.{OwnNumbers};
-use game::Header;
-use game::SequenceCounts;
-use game::recall;
+use records::Header;
+use sequences::SequenceCounts;
+use sequences::recall;
 
 // By set the number of its first sequence, by node the number of each player's own sequence to it: how many sequences each has.
 pub fn own_numbers(
@@ -25,7 +25,7 @@ pub fn own_numbers(
     let records = header.records;
     let nodes = header.nodes;
     let sets = header.sets;
-    let counts = game::sets::first_sequences(game, sets, starts);
+    let counts = sequences::sets::first_sequences(game, sets, starts);
     recall::own_numbers(game, records, nodes, 0, starts, own1);
     recall::own_numbers(game, records, nodes, 1, starts, own2);
     counts

@@ -6,11 +6,11 @@ ghost use Rattle.algebra.specs.Arrays.{over};
 ghost use Rattle.model.specs.Game.{gameOf};
 ghost use Rattle.model.specs.Writing.{entry, playerField};
 ghost use Rattle.model.specs.Rules.{GameRules};
-ghost use Rattle.game.specs.Records.{headerOf};
+ghost use Rattle.records.specs.Records.{headerOf};
 ghost use Rattle.gather.specs.Numbers.{OwnNumbers};
 ghost use Rattle.gather.specs.Sets.{leadStored, ownLead, SetsGathered};
-use game::Header;
-use game::SetEntry;
+use records::Header;
+use records::SetEntry;
 
 // The player of each set, 0 or 1, and how many moves it has.
 fn entries(game: &[u8], sets: usize, players: &mut [usize], counts: &mut [usize])
@@ -90,7 +90,7 @@ pub fn gather(
     let nodes = header.nodes;
     let sets = header.sets;
     let mut first = [0u64; 4095];
-    game::sets::first_nodes(game, records, nodes, sets, &mut first);
+    sequences::sets::first_nodes(game, records, nodes, sets, &mut first);
     entries(game, sets, players, count);
     indices(starts, sets, start);
     indices(&first, sets, node);

@@ -16,12 +16,12 @@ use Rattle.model.specs.calls.NodeRecord.{Place, NodeRecord, leaf, decision, cha
 use Rattle.model.proofs.Checks.{game-named}
 use Rattle.checks.proofs.Answers.{answer-refused, answer-given}
 use Rattle.checks.proofs.Files.{game-refuses, game-fine}
-use Rattle.game.specs.declared.Header.{Header}
-use Rattle.game.specs.declared.SetEntry.{SetEntry}
-use Rattle.game.specs.declared.NodeRecord as Read
-use Rattle.game.specs.Records.{SetRead, NodeRead}
-use Rattle.game.proofs.Columns.{set-player, node-set, node-moves, node-payoff1, node-payoff2}
-use Rattle.game.proofs.Headers.{header-nodes, header-sets, header-weight}
+use Rattle.records.specs.declared.Header.{Header}
+use Rattle.records.specs.declared.SetEntry.{SetEntry}
+use Rattle.records.specs.declared.NodeRecord as Read
+use Rattle.records.specs.Records.{SetRead, NodeRead}
+use Rattle.records.proofs.Fields.{set-player, node-set, node-moves, node-payoff1, node-payoff2}
+use Rattle.records.proofs.Headers.{header-nodes, header-sets, header-weight}
 use Rattle.game.proofs.Outcomes.{Opened, Sent}
 use Rattle.lookups.specs.Records.{recordRead}
 

@@ -8,10 +8,10 @@ ghost use Rattle.model.specs.calls.OwnSequence.{ownSequence};
 ghost use Rattle.lookups.specs.Answers.{gameAnswered, setAnswered, nodeAnswered, sequenceAnswered};
 ghost use Rattle.lookups.specs.Records.{recordRead};
 use checks::Checked;
-use game::NodeRecord;
-use game::OwnSequence;
-use game::Payload;
-use game::SetEntry;
+use records::NodeRecord;
+use records::Payload;
+use records::SetEntry;
+use sequences::OwnSequence;
 
 // The answer to a game file: accepted, with N, H and D0, or the first refusal, 1 to 13.
 pub enum GameAnswer {
@@ -149,7 +149,7 @@ pub fn own_sequence(game: &[u8], number: u64) -> SequenceAnswer
     let Checked::Fine = c17 else {
         return SequenceAnswer::Refused(checks::number(c17));
     };
-    SequenceAnswer::Sequence(game::lookup::own_sequence(
+    SequenceAnswer::Sequence(sequences::lookup::own_sequence(
         game,
         header.records,
         header.nodes,

@@ -67,6 +67,6 @@ good-run {I = I} {shape = shape} c d i b h =
     rw (refusal-after (of (λ x. x .input) (c .rows)) (roomRows c) lent (pass-of (λ (x : Lent I (Buffers shape)). x .input) (c .rows) lent .0 (d .good i tt .0 h)))
 
 -- two calls with the same result, and the same written to the buffers, do the same for good inputs
-pub same-run : {I J R : Type 0} {shape : List (Type 0)} {Good : I → Type 0} {Fine : J → Type 0} (c : Call I shape R) (e : Call J shape R) → Decided Any (c .rows) Good → Decided Any (e .rows) Fine → (i : I) (j : J) (b : Buffers shape) → Good i → Fine j → c .result i ≡ e .result j → c .written i ≡ e .written j → run c i b ≡ run e j b
-same-run {shape = shape} c e dc de i j b good fine result written =
+pub same-good-run : {I J R : Type 0} {shape : List (Type 0)} {Good : I → Type 0} {Fine : J → Type 0} (c : Call I shape R) (e : Call J shape R) → Decided Any (c .rows) Good → Decided Any (e .rows) Fine → (i : I) (j : J) (b : Buffers shape) → Good i → Fine j → c .result i ≡ e .result j → c .written i ≡ e .written j → run c i b ≡ run e j b
+same-good-run {shape = shape} c e dc de i j b good fine result written =
     good-run c dc i b good ∙ (λ k. leftIn {shape = shape} (result k) (written k) b) ∙ sym (good-run e de j b fine)

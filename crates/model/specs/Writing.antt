@@ -39,6 +39,10 @@ gameFields rootWeight setPlayers setMoves kinds parents moves weights nodeSets c
   payoffs2 = payoffs2;
 }
 
+-- ten lists as the fields of a game, where D0 is no list
+abbrev pub fieldLists : (setPlayers setMoves kinds parents moves weights nodeSets chanceMoves : List ℕ) → (payoffs1 payoffs2 : List ℤ) → GameFields
+fieldLists = gameFields 0
+
 -- What the plan writer is given: D1, D2 and all weights in file order.
 pub record PlanFields : Type 0 where
   pub d1 : ℕ

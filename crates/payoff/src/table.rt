@@ -7,10 +7,10 @@ ghost use Rattle.model.specs.Game.{gameOf, one, two};
 ghost use Rattle.model.specs.Sequences.{sequenceCount};
 ghost use Rattle.model.specs.Table.{ownNumber, payoffTable};
 ghost use Rattle.model.specs.Rules.{GameRules};
-ghost use Rattle.game.specs.Records.{headerOf};
+ghost use Rattle.records.specs.Records.{headerOf};
 ghost use Rattle.payoff.specs.Table.{TableIn};
 use super::rows;
-use game::Header;
+use records::Header;
 
 // On both players' own numbers to the nodes: the leaves are gathered.
 fn with_leaves(

@@ -15,15 +15,14 @@ use Rattle.model.specs.Plan.{balanced, fits, pairFits}
 use Rattle.model.specs.Writing.{entry}
 use Rattle.model.specs.Rules.{GameRules}
 use Rattle.model.proofs.Numbers.{moves-block, number-below}
-use Rattle.model.proofs.Tree.{same-player, player-refl, owner, leading-sequence}
+use Rattle.model.proofs.Tree.{owner, leading-sequence}
 use Rattle.checks.specs.declared.Checked.{Checked}
 use Rattle.checks.specs.declared.Checked.the-variants.{Fine, Broken}
-use Rattle.game.specs.declared.SetEntry.{SetEntry}
+use Rattle.records.specs.declared.SetEntry.{SetEntry}
 use Rattle.checks.specs.Checked.{checkedOf}
-use Rattle.game.specs.Records.{SetRead}
-use Rattle.game.specs.Sets.{firstSequence}
-use Rattle.game.proofs.Own.{bits-same}
-use Rattle.game.proofs.Leading.{read-player}
+use Rattle.records.specs.Records.{SetRead}
+use Rattle.sequences.specs.Sets.{firstSequence}
+use Rattle.sequences.proofs.OwnSets.{not-own-set}
 use Rattle.checks.proofs.Chains.{first-broken, then-second}
 use Rattle.plan.specs.Weights.{planByNumber, pairByNumber}
 use Rattle.plan.proofs.ByNumber.{weight-at}
@@ -57,20 +56,10 @@ module _ (g : Game) (rules : GameRules g) (p : Player) (x : List ℕ) (h : ℕ) 
 
 -- A set's entry that was read, and the player with the bit b.
 module _ {bytes : List ℕ} {h : ℕ} {e : SetEntry} (S : SetRead bytes h e) (b : ℕ) where
-  -- the set is his where the entry has his bit
-  pub own-set : e .player ≡ b → T (owns (gameOf bytes) (playerOf b) h)
-  unfolding owns
-  own-set q = rw (← read-player S, q) (player-refl (playerOf b))
-
-  -- and is not where it does not
-  pub not-own-set : b < 2 → ¬ (e .player ≡ b) → ¬ T (owns (gameOf bytes) (playerOf b) h)
-  unfolding owns
-  not-own-set l d t = d (bits-same (e .player) b (S .player-fits) l (read-player S ∙ same-player (playerOf b) (gameOf bytes .setPlayer h) t))
-
   -- there the test passes
   pub other-set : (x : List ℕ) → b < 2 → ¬ (e .player ≡ b) → true ≡ balanceTest (gameOf bytes) (playerOf b) x h
   unfolding implies
-  other-set x l d = rw (not→false (owns (gameOf bytes) (playerOf b) h) (not-own-set l d))
+  other-set x l d = rw (not→false (owns (gameOf bytes) (playerOf b) h) (not-own-set S b l d))
 
 -- Check 16 of both players' weights.
 module _ (g : Game) (x y : List ℕ) where

@@ -13,8 +13,8 @@ use Rattle.model.specs.Plan.{weightsBefore, planMoves}
 use Rattle.model.specs.Rules.{GameRules}
 use Rattle.model.proofs.Budget.{game-limits}
 use Rattle.model.proofs.Numbers.{plan-moves-few, sequences-few}
-use Rattle.game.specs.declared.SequenceCounts.{SequenceCounts}
-use Rattle.game.specs.Sets.{countsOf}
+use Rattle.sequences.specs.declared.SequenceCounts.{SequenceCounts}
+use Rattle.sequences.specs.Sets.{countsOf}
 use Rattle.plan.specs.declared.Denominators.{Denominators}
 use Rattle.plan.specs.declared.PlanAnswer.the-variants.{Fits}
 use Rattle.plan.specs.Weights.{weightByNumber}

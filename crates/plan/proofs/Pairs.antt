@@ -20,17 +20,16 @@ use Rattle.model.specs.Checks.{headerRows, recordRows, treeRows, gameRows, plan
 use Rattle.model.specs.Plan.{planMoves, planWeights, weightBit, weightsBefore}
 use Rattle.model.specs.PlanChecks.{Files, files}
 use Rattle.model.specs.Rows.{of, refusal}
-use Rattle.model.proofs.Rows.{named-of}
+use Rattle.model.proofs.Rows.{named-of, refusal-below}
 use Rattle.checks.proofs.Chains.{after, refusal-of}
-use Rattle.model.proofs.Rows.{refusal-below}
 use Rattle.model.specs.Writing.{entry}
-use Rattle.game.specs.declared.Header.{Header}
-use Rattle.game.specs.declared.SequenceCounts.{SequenceCounts}
+use Rattle.records.specs.declared.Header.{Header}
+use Rattle.sequences.specs.declared.SequenceCounts.{SequenceCounts}
 use Rattle.model.proofs.Checks.{game-named, game-rules}
 use Rattle.model.proofs.Budget.{game-limits}
 use Rattle.model.proofs.Numbers.{sequences-few}
-use Rattle.game.specs.Records.{headerOf}
-use Rattle.game.specs.Sets.{countsOf}
+use Rattle.records.specs.Records.{headerOf}
+use Rattle.sequences.specs.Sets.{countsOf}
 use Rattle.game.proofs.Outcomes.{Sent}
 use Rattle.plan.specs.declared.Denominators.{Denominators}
 use Rattle.plan.specs.declared.PairHeader.{PairHeader}

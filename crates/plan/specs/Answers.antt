@@ -11,9 +11,9 @@ use Rattle.model.specs.PlanChecks.{files}
 use Rattle.model.specs.Rows.{refusal}
 use Rattle.model.specs.Checks.{planRows}
 use Rattle.model.specs.Writing.{entry}
-use Rattle.game.specs.declared.SequenceCounts.{SequenceCounts}
-use Rattle.game.specs.Records.{headerOf}
-use Rattle.game.specs.Sets.{countsOf}
+use Rattle.sequences.specs.declared.SequenceCounts.{SequenceCounts}
+use Rattle.records.specs.Records.{headerOf}
+use Rattle.sequences.specs.Sets.{countsOf}
 use Rattle.plan.specs.declared.PlanAnswer.{PlanAnswer}
 use Rattle.plan.specs.declared.PlanAnswer.the-variants as Plan
 use Rattle.plan.specs.declared.PairAnswer.{PairAnswer}

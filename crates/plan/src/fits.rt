@@ -10,15 +10,15 @@ ghost use Rattle.model.specs.Writing.{entry};
 ghost use Rattle.model.specs.Rules.{GameRules};
 ghost use Rattle.model.specs.Plan.{balanced, fits, pairFits};
 ghost use Rattle.checks.specs.Checked.{checkedOf};
-ghost use Rattle.game.specs.Records.{headerOf};
-ghost use Rattle.game.specs.Sets.{firstSequence};
+ghost use Rattle.records.specs.Records.{headerOf};
+ghost use Rattle.sequences.specs.Sets.{firstSequence};
 ghost use Rattle.plan.specs.Weights.{planByNumber, pairByNumber, Small, Weights, Tables};
 use checks::Checked;
-use game::Header;
-use game::SetEntry;
-use game::lookup;
-use game::recall;
-use game::sets;
+use records::Header;
+use records::SetEntry;
+use sequences::lookup;
+use sequences::recall;
+use sequences::sets;
 
 // The sum of the weights of a set's moves, the first at `start`.
 fn moves_weight(x: &[u64], start: usize, moves: usize) -> u64

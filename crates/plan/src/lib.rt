@@ -4,12 +4,12 @@ ghost use Prim.Native.Nat.{_≤_};
 ghost use lib.ListN.{length};
 ghost use Rattle.model.specs.Game.{gameOf, one, two};
 ghost use Rattle.model.specs.Rules.{GameRules};
-ghost use Rattle.game.specs.Records.{headerOf};
+ghost use Rattle.records.specs.Records.{headerOf};
 ghost use Rattle.plan.specs.Answers.{planRefusal, planAnswer, weightsAfter};
 use checks::Checked;
-use game::Header;
-use game::SequenceCounts;
-use game::sets;
+use records::Header;
+use sequences::SequenceCounts;
+use sequences::sets;
 
 mod fits;
 mod format;

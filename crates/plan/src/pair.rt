@@ -12,7 +12,7 @@ use super::PairAnswer;
 use super::PairHeader;
 use super::PlanAnswer;
 use game::GameAnswer;
-use game::SequenceCounts;
+use sequences::SequenceCounts;
 
 // The number of a plan's refusal, or 0.
 fn plan_refusal(answer: PlanAnswer) -> u64

@@ -1,13 +1,13 @@
 -- The round trips of a plan, on the calls.
-use Prim.Native.Nat.{ℕ, _+_, _≤_, _<_}
+use Prim.Native.Nat.{ℕ, _≤_, _<_}
 use mathlib.Core.Path.{_≡_, refl, sym, ap, _∙_}
 use mathlib.Core.Bool.{Bool, true, false, not, false≢true}
-use mathlib.Core.List.{List, [], _∷_, _++_}
+use mathlib.Core.List.{List, [], _∷_}
 use native.Mathlib.Omega.{arith}
 use native.Mathlib.Decide.{decLt}
 use lib.Dec.{T, eqb}
-use lib.ListN.{length, take, drop}
-use lib.Seq.{take-append-seam, take-all}
+use lib.ListN.{length, take}
+use lib.Seq.{take-all}
 use borrow.Author.Tests.{le-leb}
 use Rattle.algebra.proofs.Tests.{true→T, cond-yes}
 use Rattle.model.specs.Game.{gameOf, one, two}
@@ -45,7 +45,7 @@ use Rattle.plans.specs.declared.WeightsAnswer.{WeightsAnswer}
 use Rattle.plans.specs.declared.WeightsAnswer.the-variants as Weights
 use Rattle.plans.specs.Answers.{weightsAnswered}
 use Rattle.plan_trips.specs.Extents.{extentOf}
-use Rattle.checks.proofs.Runs.{Gave, gave, not-gave}
+use Rattle.checks.proofs.Runs.{Gave, gave, not-gave, front}
 
 -- the writer refuses nothing that fits
 taken : (t : PlanFields) → T (planFieldsFit (t .d1) (t .d2) (t .weights)) → refusal WritePlan.rows t ≡ 0
@@ -90,18 +90,18 @@ module _ (game plan out : List ℕ) where
     pub weights : take count after ≡ planWeights (gameOf game) plan
 
   pub read-given : (l : List ℕ) {r : WeightsAnswer} {after : List ℕ} {d1 d2 count : ℕ} → outcome (weightsAnswered r) (after, tt) ≡ PlanFields.planFields game plan l → r ≡ Weights.Given d1 d2 count → Read d1 d2 count after
-  unfolding PlanFields.call afterCall
+  unfolding PlanFields.call
   read-given l {r} {after} {d1} {d2} {count} e f =
       let G : Gave PlanFields.call pair-named pair (l, tt) (record { d1 = d1; d2 = d2; count = count }) (after, tt) = gave PlanFields.call pair-named pair (l, tt) e (ap weightsAnswered f) in
       let w = planWeights (gameOf game) plan in
       let n : count ≡ planMoves (gameOf game) = ap (λ (v : PlanFields.PlanCounts). v .count) (G .result) in
-      let left : after ≡ w ++ drop (length w) l = ap (λ (b : List ℕ × Unit {0}). b .0) (G .buffers) in
+      let left : after ≡ afterCall 0 w l = ap (λ (b : List ℕ × Unit {0}). b .0) (G .buffers) in
       record {
         fits = G .fine;
         first = ap (λ (v : PlanFields.PlanCounts). v .d1) (G .result);
         second = ap (λ (v : PlanFields.PlanCounts). v .d2) (G .result);
         small = omega (arith, n, few (G .fine));
-        weights = rw (n, left, ← length-weights) (take-append-seam w (drop (length w) l));
+        weights = front count w l after (length-weights ∙ sym n) left;
       }
 
   -- the writer takes it, and writes the file's own bytes
@@ -183,19 +183,15 @@ module _ (game : List ℕ) (d1 d2 : ℕ) (weights out : List ℕ) where
       unfolding RereadPlan.call
       reread-misfit f g = sym (call-refuses RereadPlan.call (reread-decided .numbered) asked (out, tt) (stopped (checked ∙ rw (tested is)) f g))
 
-      -- all fits: what is written is read, or 6,146 bytes where more had to be written
-      pub reread-rest : c ≡ Fine → {x : ℕ} → x ≡ extentOf 6146 r → length l ≡ 6146 → (x ≤ 6146) × (PlanFields.planFields game (take x after) out ≡ RereadPlan.rereadPlan game d1 d2 weights out)
-      unfolding afterCall longestPlan
-      reread-rest f {x} size long = go r room refl (roomed fit) size
+      -- all fits: what is written is read, or the whole file where more had to be written
+      pub reread-rest : c ≡ Fine → {x all : ℕ} → x ≡ extentOf all r → length l ≡ all → longestPlan < all → (x ≤ all) × (PlanFields.planFields game (take x after) out ≡ RereadPlan.rereadPlan game d1 d2 weights out)
+      reread-rest f {x} {all} size long most = go r room refl (roomed fit) size
         where
           fit : T (planFieldsFit d1 d2 weights)
           fit = true→T _ (sym (tested is) ∙ fine-holds 17 _ checked f)
 
           alike : refusal RereadPlan.rows asked ≡ refusal pairRows (files game file)
           alike = passed (checked ∙ rw (tested is)) f
-
-          whole : after ≡ file ++ drop (length file) l → take (length file) after ≡ file
-          whole z = rw z (take-append-seam file (drop (length file) l))
 
           longer : room ≡ false → length l < length file
           longer t =
@@ -204,13 +200,13 @@ module _ (game : List ℕ) (d1 d2 : ℕ) (weights out : List ℕ) where
                 | no b ↦ absurd (false≢true (sym t ∙ rw (le-leb (length file) (length l) (omega arith))))
               ]
 
-          go : (r : WriteAnswer) (t : Bool) → room ≡ t → outcome (writeAnswered r) (after, tt) ≡ inRoom {R = ℕ} {shape = ℕ ∷ []} t (length file) (file, tt) (l, tt) → x ≡ extentOf 6146 r → (x ≤ 6146) × (PlanFields.planFields game (take x after) out ≡ RereadPlan.rereadPlan game d1 d2 weights out)
+          go : (r : WriteAnswer) (t : Bool) → room ≡ t → outcome (writeAnswered r) (after, tt) ≡ inRoom {R = ℕ} {shape = ℕ ∷ []} t (length file) (file, tt) (l, tt) → x ≡ extentOf all r → (x ≤ all) × (PlanFields.planFields game (take x after) out ≡ RereadPlan.rereadPlan game d1 d2 weights out)
           go (Written n) true t o s =
               let same : given n ≡ given (length file) = ap (λ (o : Outcome (ℕ ∷ []) ℕ). o .answer) o in
-              let all : n ≡ length file = cc in
-              let left : after ≡ file ++ drop (length file) l = ap (λ (o : Outcome (ℕ ∷ []) ℕ). o .buffers .0) o in
+              let whole : n ≡ length file = cc in
+              let left : after ≡ afterCall 0 file l = ap (λ (o : Outcome (ℕ ∷ []) ℕ). o .buffers .0) o in
               let small = split (length file) (length l) t .0 in
-              (omega (arith, s, all, small, long), rw (s, all, whole left) (read-back fit alike))
+              (omega (arith, s, whole, small, long), rw (s, whole, front (length file) file l after refl left) (read-back fit alike))
           go (Written n) false t o s =
               let same : given n ≡ refused 18 = ap (λ (o : Outcome (ℕ ∷ []) ℕ). o .answer) o in
               let y : _≡_ {A = ℕ} 0 1 = cc in
@@ -221,4 +217,9 @@ module _ (game : List ℕ) (d1 d2 : ℕ) (weights out : List ℕ) where
               absurd (omega arith)
           go (Refused n) false t o s =
               let left : after ≡ l = ap (λ (o : Outcome (ℕ ∷ []) ℕ). o .buffers .0) o in
-              (omega (arith, s), rw (s, left, take-all 6146 l (omega (arith, long))) (read-long l (omega (arith, long)) (omega (arith, long, longer t)) alike))
+              (omega (arith, s), rw (s, left, take-all all l (omega (arith, long))) (read-long l (omega (arith, long, most)) (omega (arith, long, most, longer t)) alike))
+
+-- no plan of a game has 6,146 bytes
+pub longer-than-any : longestPlan < 6146
+unfolding longestPlan
+longer-than-any = omega arith

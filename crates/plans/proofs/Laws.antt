@@ -23,7 +23,7 @@ use Rattle.checks.proofs.Answers.{answer-refused, answer-given}
 use Rattle.checks.proofs.Chains.{call-refuses}
 use Rattle.checks.proofs.Files.{pair-refuses, pair-fine}
 use Rattle.checks.proofs.OneBuffer.{one-short, one-given}
-use Rattle.game.specs.declared.SequenceCounts.{SequenceCounts}
+use Rattle.sequences.specs.declared.SequenceCounts.{SequenceCounts}
 use Rattle.plan.specs.declared.PairHeader.{PairHeader}
 use Rattle.plan.specs.Weights.{weightByNumber}
 use Rattle.plan.specs.Answers.{inFileOrder}

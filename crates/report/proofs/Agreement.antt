@@ -12,7 +12,7 @@ use Rattle.model.specs.BestResponse.{bestValue, bestResponse}
 use Rattle.model.specs.Verdict.{verdict, gain, deviates, equilibrium}
 use Rattle.model.specs.Report.{moveLine, valueLine, bestLine, gainAmount, verdictLines, report}
 use Rattle.form.specs.Values.{valuesOf}
-use Rattle.verdict.proofs.Judging.{withoutMoves}
+use Rattle.judgement.proofs.Judging.{withoutMoves}
 use Rattle.text.specs.Lines.{amountLine}
 use Rattle.report.specs.Whole.{basesOf, bothLines, valuesText, strategyLines, deviationText, verdictText, reportText}
 

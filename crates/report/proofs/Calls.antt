@@ -26,14 +26,14 @@ use Rattle.checks.proofs.Chains.{begin, ends, call-refuses, call-gives, same-ru
 use Rattle.checks.proofs.Files.{pair-refuses, pair-fine}
 use Rattle.model.proofs.Rows.{refusal-below}
 use Rattle.checks.proofs.OneBuffer.{one-short, one-given}
-use Rattle.game.proofs.Headers.{header-weight, header-sets}
-use Rattle.game.proofs.NodeTests.{few-sets}
+use Rattle.records.proofs.Headers.{header-weight, header-sets}
+use Rattle.records.proofs.Reading.{few-sets}
 use Rattle.plan.specs.declared.PairHeader.{PairHeader}
 use Rattle.plan.proofs.Pairs.{PairOpened}
 use Rattle.form.specs.declared.Values.{Values}
 use Rattle.plan.proofs.PairDenominators.{first-is, second-is}
-use Rattle.verdict.specs.declared.Verdict.{Verdict}
-use Rattle.verdict.specs.Judgement.{judged}
+use Rattle.judgement.specs.declared.Verdict.{Verdict}
+use Rattle.judgement.specs.Judgement.{judged}
 use Rattle.verdict.proofs.Evaluated.{EvaluationOpened}
 use Rattle.verdict.proofs.Judged.{judged-as}
 use Rattle.text.specs.Text.{Put}

@@ -8,8 +8,8 @@ use borrow.Author.Tests.{eq-eqb, ne-eqb}
 use lib.IntN.{ℤ}
 use Rattle.model.specs.Game.{Game, one, two}
 use Rattle.model.specs.Report.{ascii, line}
-use Rattle.verdict.specs.declared.Verdict.{Verdict}
-use Rattle.verdict.specs.declared.Verdict.the-variants.{Equilibrium, Deviation}
+use Rattle.judgement.specs.declared.Verdict.{Verdict}
+use Rattle.judgement.specs.declared.Verdict.the-variants.{Equilibrium, Deviation}
 use Rattle.text.specs.Lines.{fraction}
 use Rattle.report.specs.Whole.{DenominatorsFit, BasesFit, basesOf, deviationText, verdictText}
 

@@ -13,8 +13,8 @@ use Rattle.model.specs.Report.{ascii, line, moveLine}
 use Rattle.model.specs.Budget.{weightLimit}
 use Rattle.plan.specs.declared.PairHeader.{PairHeader}
 use Rattle.form.specs.declared.Values.{Values}
-use Rattle.verdict.specs.declared.Verdict.{Verdict}
-use Rattle.verdict.specs.declared.Verdict.the-variants.{Equilibrium, Deviation}
+use Rattle.judgement.specs.declared.Verdict.{Verdict}
+use Rattle.judgement.specs.declared.Verdict.the-variants.{Equilibrium, Deviation}
 use Rattle.report.specs.declared.Bases.{Bases}
 use Rattle.text.specs.Lines.{BaseFits, fraction, amountLine}
 

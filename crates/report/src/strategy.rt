@@ -5,7 +5,7 @@ ghost use lib.ListN.{length};
 ghost use Rattle.model.specs.Game.{gameOf, playerOf};
 ghost use Rattle.text.specs.Text.{Room, Put};
 ghost use Rattle.report.specs.Whole.{setLine, strategyLines};
-use game::SetEntry;
+use records::SetEntry;
 use text::lines::put_move_line;
 
 // Puts the line of set `h`, where it is the player's.

@@ -9,10 +9,10 @@ ghost use Rattle.report.specs.Whole.{DenominatorsFit, BasesFit, basesOf,
 use super::Bases;
 use super::strategy::put_strategy;
 use form::Values;
+use judgement::Verdict;
 use plan::PairHeader;
 use text::lines::put_accepted;
 use text::lines::put_amount_line;
-use verdict::Verdict;
 use verdict::verdicts::base;
 
 // What the amounts of a pair are counted over.

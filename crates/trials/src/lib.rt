@@ -8,6 +8,7 @@ pub mod lists;
 pub mod output;
 
 pub use output::say;
+pub use output::say_buffer;
 pub use output::say_heading;
 pub use output::say_number;
 pub use output::say_numbers;

@@ -48,3 +48,20 @@ pub fn say_signed_numbers(label: &[u8], numbers: &[i64]) {
         at += 1;
     }
 }
+
+// A byte as two hexadecimal digits.
+fn say_byte(byte: u8) {
+    say(b" ");
+    io::print_hex(STDOUT_FILENO, byte as u64, 2);
+}
+
+// The end of a line: what a buffer holds.
+pub fn say_buffer(buffer: &[u8]) {
+    say(b" buffer");
+    let mut at = 0;
+    while at < buffer.len() {
+        say_byte(buffer[at]);
+        at += 1;
+    }
+    say(b"\n");
+}

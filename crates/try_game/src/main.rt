@@ -1,4 +1,4 @@
-// Tries the entry points of game files: a line for each file that the list `cases` names, then every look-up in three of them and all fields of three.
+// Tries the calls of game files: a line for each file that the list `cases` names, then every look-up in three of them and all fields of three.
 use entry::FieldsAnswer;
 use entry::GameAnswer;
 use entry::NodeAnswer;

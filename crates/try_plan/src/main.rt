@@ -1,4 +1,4 @@
-// Tries the entry points of plan files: a line for each case that the list `cases` names, then all weights of those that `rooms` names, into buffers of each length.
+// Tries the calls of plan files: a line for each case that the list `cases` names, then all weights of those that `rooms` names, into buffers of each length.
 ghost use Prim.Native.Nat.{_≤_};
 use entry::PlanAnswer;
 use entry::WeightsAnswer;

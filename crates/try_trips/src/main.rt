@@ -1,10 +1,10 @@
 // Tries the round trips: the study game of document 003 with its plans M and F, files that are refused, and buffers that are too short.
 use fields::FieldsAnswer;
-use libc::STDOUT_FILENO;
 use plans::WeightsAnswer;
 use trials::ROOM;
 use trials::load;
 use trials::say;
+use trials::say_buffer;
 use trials::say_number;
 use trials::say_numbers;
 use trials::say_signed_numbers;
@@ -12,23 +12,6 @@ use writers::WriteAnswer;
 
 // What each lent byte is before the call.
 const HELD: u8 = 165;
-
-// A byte as two hexadecimal digits.
-fn say_byte(byte: u8) {
-    say(b" ");
-    io::print_hex(STDOUT_FILENO, byte as u64, 2);
-}
-
-// What a buffer holds.
-fn say_buffer(buffer: &[u8]) {
-    say(b" buffer");
-    let mut at = 0;
-    while at < buffer.len() {
-        say_byte(buffer[at]);
-        at += 1;
-    }
-    say(b"\n");
-}
 
 // The number of a refusal.
 fn say_refusal(number: u64) {

@@ -4,12 +4,12 @@ ghost use Prim.Native.Nat.{_≤_, _+_};
 ghost use mathlib.Core.Path.{_≡_};
 ghost use lib.ListN.{length, take};
 use entry::WriteAnswer;
-use libc::STDOUT_FILENO;
 use trials::ROOM;
 use trials::lists::line_at;
 use trials::lists::next_line;
 use trials::load;
 use trials::say;
+use trials::say_buffer;
 use trials::say_number;
 
 // The most words of a case: a game's room and D0, then ten lists of a count and 16 entries.
@@ -34,23 +34,6 @@ const SHOWN: usize = 8;
 enum Kind {
     Game,
     Plan,
-}
-
-// A byte as two hexadecimal digits.
-fn say_byte(byte: u8) {
-    say(b" ");
-    io::print_hex(STDOUT_FILENO, byte as u64, 2);
-}
-
-// What a buffer holds.
-fn say_buffer(buffer: &[u8]) {
-    say(b" buffer");
-    let mut at = 0;
-    while at < buffer.len() {
-        say_byte(buffer[at]);
-        at += 1;
-    }
-    say(b"\n");
 }
 
 // What the first bytes of a buffer hold.

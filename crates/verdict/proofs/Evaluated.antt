@@ -13,10 +13,10 @@ use Rattle.model.specs.Writing.{entry}
 use Rattle.model.specs.Rules.{GameRules}
 use Rattle.model.proofs.Checks.{game-rules}
 use Rattle.algebra.specs.Arrays.{Holds, over}
-use Rattle.game.specs.Records.{headerOf}
-use Rattle.game.specs.Sets.{countsOf}
+use Rattle.records.specs.Records.{headerOf}
+use Rattle.sequences.specs.Sets.{countsOf}
 use Rattle.algebra.proofs.Fillings.{length-over, filled}
-use Rattle.game.proofs.NodeTests.{few-sets}
+use Rattle.records.proofs.Reading.{few-sets}
 use Rattle.plan.specs.declared.PairHeader.{PairHeader}
 use Rattle.plan.specs.declared.PairAnswer.{PairAnswer}
 use Rattle.plan.specs.declared.PairAnswer.the-variants.{Fits, Refused}

@@ -31,17 +31,17 @@ use Rattle.model.proofs.Checks.{game-rules, plan-rules, pair-parts, pair-named}
 use Rattle.model.proofs.calls.Verdict.{demand3}
 use Rattle.checks.proofs.Chains.{begin, ends, call-refuses, call-gives, same-run}
 use Rattle.checks.proofs.Files.{pair-refuses, pair-fine}
-use Rattle.game.proofs.Headers.{header-weight, header-sets}
+use Rattle.records.proofs.Headers.{header-weight, header-sets}
 use Rattle.plan.specs.declared.PairHeader.{PairHeader}
 use Rattle.plan.proofs.Pairs.{PairOpened}
 use Rattle.form.specs.declared.Values.{Values}
 use Rattle.form.specs.BestMoves.{ownBestMove}
 use Rattle.form.specs.Values.{valuesOf}
-use Rattle.verdict.specs.declared.Verdict.{Verdict as NumberVerdict}
-use Rattle.verdict.specs.declared.Verdict.the-variants as Numbers
-use Rattle.verdict.specs.Judgement.{judged, GainFits}
+use Rattle.judgement.specs.declared.Verdict.{Verdict as NumberVerdict}
+use Rattle.judgement.specs.declared.Verdict.the-variants as Numbers
+use Rattle.judgement.specs.Judgement.{judged, GainFits}
 use Rattle.verdict.specs.Showing.{showing}
-use Rattle.verdict.proofs.Judging.{numbered, withoutMoves, judged-is, gains-fit, says-deviation}
+use Rattle.judgement.proofs.Judging.{numbered, withoutMoves, judged-is, gains-fit, says-deviation}
 use Rattle.verdict.proofs.Strategies.{strategy-is}
 use Rattle.plan.proofs.PairDenominators.{first-is, second-is}
 

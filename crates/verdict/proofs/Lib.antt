@@ -1,6 +1,5 @@
 pub mod Evaluated
 pub mod Judged
-pub mod Judging
 pub mod Shown
 pub mod Strategies
 pub mod Valued

@@ -12,7 +12,7 @@ use Rattle.model.specs.calls.Values.{PairValues, call, values}
 use Rattle.model.proofs.Checks.{pair-named}
 use Rattle.checks.proofs.Chains.{call-refuses, call-gives}
 use Rattle.checks.proofs.Files.{pair-refuses, pair-fine}
-use Rattle.game.proofs.Headers.{header-weight}
+use Rattle.records.proofs.Headers.{header-weight}
 use Rattle.plan.specs.declared.PairHeader.{PairHeader}
 use Rattle.plan.proofs.Pairs.{PairOpened}
 use Rattle.form.specs.declared.Values.{Values}

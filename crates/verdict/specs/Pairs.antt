@@ -4,8 +4,8 @@ use mathlib.Core.List.{List}
 use Rattle.algebra.specs.Arrays.{over}
 use Rattle.model.specs.Game.{Player, gameOf, other}
 use Rattle.model.specs.Plan.{planPairOf}
-use Rattle.game.specs.Records.{headerOf}
-use Rattle.game.specs.Sets.{countsOf}
+use Rattle.records.specs.Records.{headerOf}
+use Rattle.sequences.specs.Sets.{countsOf}
 use Rattle.plan.specs.Header.{denominatorsOf}
 use Rattle.form.specs.BestMoves.{ownBestMove}
 use Rattle.form.specs.Values.{valuesOf}

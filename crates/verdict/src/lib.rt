@@ -1,10 +1,8 @@
-// The verdict on a plan pair: who can gain and how much, and the best response that shows it.
+// The calls on a pair of files: values and best values, and the verdict.
 use form::Values;
 use plan::PairHeader;
 
-pub mod judgement;
 pub mod pairs;
-pub mod strategy;
 pub mod values;
 pub mod verdicts;
 
@@ -12,12 +10,6 @@ pub mod verdicts;
 pub enum PairEvaluated {
     Evaluated { pair: PairHeader, values: Values },
     Refused(u64),
-}
-
-// Nobody can gain; or the player, 1 or 2, and his gain over D0 × D1 × D2.
-pub enum Verdict {
-    Equilibrium,
-    Deviation { player: u64, gain: i64 },
 }
 
 // The players' values over D0 × D1 × D2, their best values over D0 × the other's D, and D0, D1 and D2; a refusal is 1 to 16.

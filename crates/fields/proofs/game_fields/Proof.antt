@@ -1,8 +1,7 @@
 -- The game's refusal comes first, then 18; with room for each field all buffers are filled.
 use borrow.Author.Needs.{needs}
-use Rattle.model.specs.Writing.{GameFields}
-use Rattle.game.specs.Columns.{fieldLists}
-use Rattle.game.proofs.Headers.{header-framed, header-sets}
+use Rattle.model.specs.Writing.{GameFields, fieldLists}
+use Rattle.records.proofs.Headers.{header-framed, header-sets}
 use Rattle.game.proofs.Outcomes.{Opened, opened, sent}
 use Rattle.fields.proofs.Buffers.{file-refused, no-room, has-room, all-given}
 use Rattle.fields.proofs.game_fields.Statement.{statement}

@@ -3,7 +3,7 @@ use borrow.Author.Needs.{needs}
 use lib.ListN.{drop}
 use Rattle.model.specs.Checks.{recordRows}
 use Rattle.checks.proofs.Chains.{Left, begin, passes}
-use Rattle.game.proofs.Headers.{header-sets, header-framed}
+use Rattle.records.proofs.Headers.{header-sets, header-framed}
 use Rattle.game.proofs.Parts.{stops-as, ends-as}
 use Rattle.game.proofs.check_records.Statement.{statement}
 use Rattle.game.proofs.check_records.Tie as tie

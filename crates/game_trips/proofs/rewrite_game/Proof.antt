@@ -1,9 +1,8 @@
 -- What is read is written again.
-use mathlib.Core.Path.{_∙_}
+use mathlib.Core.Path.{refl, sym}
 use native.Mathlib.Omega.{arith}
-use borrow.Author.Needs.{needs}
 use Rattle.model.specs.Demand2.{IsBytes}
-use Rattle.game_trips.proofs.Games.{rewrite-refused, read-given, rewrite-given}
+use Rattle.game_trips.proofs.Games.{rewrite-refused, Read, read-given, rewrite-given, fronts-stand}
 use Rattle.game_trips.proofs.rewrite_game.Statement.{statement}
 use Rattle.game_trips.proofs.rewrite_game.Tie as tie
 
@@ -26,64 +25,52 @@ refused c =
 bytes : (c : tie.After-shared-slice-known) → IsBytes (c .before .args .game .now)
 bytes c i = omega (arith, c .shared-slice-known .given i)
 
+-- what is read
+read : (c : tie.After-read) → Read (c .before .before .before .before .before .before .before .before .before .before .before .before .before .before .before .before .before .before .before .before .before .before .before .before .before .args .game .now) (c .read .given .0 .1 .1 .0) (c .read .given .0 .1 .0) (c .read .given .0 .0) (c .before .before .before .before .before .before .before .before .before .before .before .before .game-fields .last .1)
+read c = read-given _ _ (c .before .before .before .before .before .before .before .before .before .before .before .before .game-fields .ensures) (c .read .given .1)
+
 written : tie.Need-returns-2
 written c =
-    let k = c .before .before .before .before .before .before .before .before .before .before .before .before .before .before .before .before in
-    let R = read-given _ _ _ _ _ _ _ _ _ _ _ (k .before .before .before .before .before .before .before .before .before .before .before .before .before .game-fields .ensures) (k .before .read .given .1) in
-    c .before .before .write-fronts .ensures ∙ rw (c .before .before .before .before .before .before .before .before .before .before .before .before .before .before .before .index .ensures, c .before .before .before .before .before .before .before .before .before .before .before .before .before .before .index2 .ensures) (rewrite-given _ _ (bytes (c .before .before .before .before .before .before .before .before .before .before .before .before .before .before .before .before .before .before .before .before .before .before .before .before .before .before .before .before .before .before .before .before .before .before .before .before .before .before .before .before .before)) R)
+    let k = c .before .before .before .before .before .before .before .before .before .before .before .before .before .before .before .before .before in
+    rewrite-given _ _ (bytes (c .before .before .before .before .before .before .before .before .before .before .before .before .before .before .before .before .before .before .before .before .before .before .before .before .before .before .before .before .before .before .before .before .before .before .before .before .before .before .before .before .before)) (read k) (c .before .before .before .before .before .before .before .before .before .before .before .before .before .before .before .index .ensures) (c .before .before .before .before .before .before .before .before .before .before .before .before .before .before .index2 .ensures) (c .before .before .write-fronts .ensures)
 
 front-requires : tie.Need-write-fronts-requires
 front-requires c κs =
-    let k = c .before .before .before .before .before .before .before .before .before .before .before .before .before in
-    let R = read-given _ _ _ _ _ _ _ _ _ _ _ (k .before .before .before .before .before .before .before .before .before .before .before .before .before .game-fields .ensures) (k .before .read .given .1) in
-    let h = R .few-sets-read in
-    let n = R .few-nodes-read in
-    let hi = c .before .before .before .before .before .before .before .before .before .before .before .before .index .ensures in
-    let ni = c .before .before .before .before .before .before .before .before .before .before .before .index2 .ensures in
-    let kept = k .before .before .before .before .before .before .before .before .before .before .before .before .before .game-fields .kept in (
-      omega (arith, h, hi, kept .1 .0),
-      omega (arith, h, hi, kept .1 .1 .0),
-      omega (arith, n, ni, kept .1 .1 .1 .0),
-      omega (arith, n, ni, kept .1 .1 .1 .1 .0),
-      omega (arith, n, ni, kept .1 .1 .1 .1 .1 .0),
-      omega (arith, n, ni, kept .1 .1 .1 .1 .1 .1 .0),
-      omega (arith, n, ni, kept .1 .1 .1 .1 .1 .1 .1 .0),
-      omega (arith, n, ni, kept .1 .1 .1 .1 .1 .1 .1 .1 .0),
-      omega (arith, n, ni, kept .1 .1 .1 .1 .1 .1 .1 .1 .1 .0),
-      omega (arith, n, ni, kept .1 .1 .1 .1 .1 .1 .1 .1 .1 .1 .0),
-    )
+    let k = c .before .before .before .before .before .before .before .before .before .before .before .before .before .before in
+    let kept = k .before .before .before .before .before .before .before .before .before .before .before .before .game-fields .kept in
+    fronts-stand (read k) (c .before .before .before .before .before .before .before .before .before .before .before .before .index .ensures) (c .before .before .before .before .before .before .before .before .before .before .before .index2 .ensures) (kept .1 .0) (kept .1 .1 .0) (kept .1 .1 .1 .0) (kept .1 .1 .1 .1 .0) (kept .1 .1 .1 .1 .1 .0) (kept .1 .1 .1 .1 .1 .1 .0) (kept .1 .1 .1 .1 .1 .1 .1 .0) (kept .1 .1 .1 .1 .1 .1 .1 .1 .0) (kept .1 .1 .1 .1 .1 .1 .1 .1 .1 .0) (kept .1 .1 .1 .1 .1 .1 .1 .1 .1 .1 .0)
 
 pub rewrite-game-spec : {M : Type 1} → statement M
 rewrite-game-spec =
     tie.close
     (tie.spec
-    (λ c. search needs)
-    (λ c. search needs)
-    (λ c. search needs)
-    (λ c. search needs)
-    (λ c. search needs)
-    (λ c. search needs)
-    (λ c. search needs)
-    (λ c. search needs)
-    (λ c. search needs)
-    (λ c. search needs)
+    (λ c. refl)
+    (λ c. refl)
+    (λ c. refl)
+    (λ c. refl)
+    (λ c. refl)
+    (λ c. refl)
+    (λ c. refl)
+    (λ c. refl)
+    (λ c. refl)
+    (λ c. refl)
     (λ c κs. tt)
-    (λ c. search needs)
-    (λ c. search needs)
+    (λ c. c .match .keys1)
+    (λ c. c .match .keys2)
     (λ c κs. tt)
     refused
-    (λ c κs. search needs)
-    (λ c κs. search needs)
-    (λ c. search needs)
-    (λ c. search needs)
-    (λ c. search needs)
-    (λ c. search needs)
-    (λ c. search needs)
-    (λ c. search needs)
-    (λ c. search needs)
-    (λ c. search needs)
-    (λ c. search needs)
-    (λ c. search needs)
+    (λ c κs. tt)
+    (λ c κs. tt)
+    (λ c. sym (c .before .before .before .before .before .before .before .before .before .before .before .before .before .before .before .before .game-fields .kept .1 .0))
+    (λ c. sym (c .before .before .before .before .before .before .before .before .before .before .before .before .before .before .before .before .before .game-fields .kept .1 .1 .0))
+    (λ c. sym (c .before .before .before .before .before .before .before .before .before .before .before .before .before .before .before .before .before .before .game-fields .kept .1 .1 .1 .0))
+    (λ c. sym (c .before .before .before .before .before .before .before .before .before .before .before .before .before .before .before .before .before .before .before .game-fields .kept .1 .1 .1 .1 .0))
+    (λ c. sym (c .before .before .before .before .before .before .before .before .before .before .before .before .before .before .before .before .before .before .before .before .game-fields .kept .1 .1 .1 .1 .1 .0))
+    (λ c. sym (c .before .before .before .before .before .before .before .before .before .before .before .before .before .before .before .before .before .before .before .before .before .game-fields .kept .1 .1 .1 .1 .1 .1 .0))
+    (λ c. sym (c .before .before .before .before .before .before .before .before .before .before .before .before .before .before .before .before .before .before .before .before .before .before .game-fields .kept .1 .1 .1 .1 .1 .1 .1 .0))
+    (λ c. sym (c .before .before .before .before .before .before .before .before .before .before .before .before .before .before .before .before .before .before .before .before .before .before .before .game-fields .kept .1 .1 .1 .1 .1 .1 .1 .1 .0))
+    (λ c. sym (c .before .before .before .before .before .before .before .before .before .before .before .before .before .before .before .before .before .before .before .before .before .before .before .before .game-fields .kept .1 .1 .1 .1 .1 .1 .1 .1 .1 .0))
+    (λ c. sym (c .before .before .before .before .before .before .before .before .before .before .before .before .before .before .before .before .before .before .before .before .before .before .before .before .before .game-fields .kept .1 .1 .1 .1 .1 .1 .1 .1 .1 .1 .0))
     front-requires
-    (λ c. search needs)
+    (λ c. c .before .before .write-fronts .kept .1 .1 .1 .1 .1 .1 .1 .1 .1 .1 .1 .1 .1 .0)
     written)

@@ -6,7 +6,7 @@ use Rattle.model.specs.Call.{given}
 use Rattle.model.specs.calls.NodeRecord.{call}
 use Rattle.model.proofs.Budget.{game-limits}
 use Rattle.model.proofs.Checks.{game-rules}
-use Rattle.game.proofs.Headers.{header-nodes, header-records}
+use Rattle.records.proofs.Headers.{header-nodes, header-records}
 use Rattle.game.proofs.Outcomes.{Opened, opened, sent}
 use Rattle.lookups.proofs.Asking.{in-game, game-refused, number-missing, number-found}
 use Rattle.lookups.proofs.Reading.{node-is-read}

@@ -5,7 +5,7 @@ use native.Mathlib.Omega.{arith}
 use Rattle.model.specs.Call.{given}
 use Rattle.model.specs.calls.OwnSequence.{call}
 use Rattle.model.proofs.Checks.{game-rules}
-use Rattle.game.proofs.Headers.{header-sets, header-framed}
+use Rattle.records.proofs.Headers.{header-sets, header-framed}
 use Rattle.game.proofs.Outcomes.{Opened, opened, sent}
 use Rattle.lookups.proofs.Asking.{in-game, game-refused, number-missing, number-found}
 use Rattle.lookups.proofs.Reading.{sequence-is-read}

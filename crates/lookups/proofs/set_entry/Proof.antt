@@ -4,8 +4,8 @@ use mathlib.Core.Path.{ap, _∙_}
 use native.Mathlib.Omega.{arith}
 use Rattle.model.specs.Call.{given}
 use Rattle.model.specs.calls.SetEntry.{call}
-use Rattle.game.proofs.Headers.{header-sets}
-use Rattle.game.proofs.NodeTests.{few-sets}
+use Rattle.records.proofs.Headers.{header-sets}
+use Rattle.records.proofs.Reading.{few-sets}
 use Rattle.game.proofs.Outcomes.{Opened, opened, sent}
 use Rattle.lookups.proofs.Asking.{in-game, game-refused, number-missing, number-found}
 use Rattle.lookups.proofs.Reading.{set-is-read}

@@ -15,7 +15,7 @@ use Rattle.model.specs.calls.RereadGame.{countsGiven, rows, call, reread
 use Rattle.model.specs.Demand1.{Clause}
 use Rattle.model.proofs.Rows.{Decided, Any, decided-of, decided-append, decided-known}
 use Rattle.model.proofs.Checks.{game-decided}
-use Rattle.model.proofs.Call.{clause, same-run}
+use Rattle.model.proofs.Call.{clause, same-good-run}
 use Rattle.model.proofs.Fields.{fields-fit-iff}
 use Rattle.model.proofs.GameTrips.{set-count, node-count, game-fields-trip}
 use Rattle.model.proofs.calls.WriteGame.{fit-decided}
@@ -44,4 +44,4 @@ pub demand2 : (t : GameFields) (buffers : Buffers GameFields.shape) → FieldsFi
 unfolding call GameFields.call
 demand2 t buffers fit file =
     let back = game-fields-trip t (fields-fit-iff t .passes fit) in
-    same-run GameFields.call call game-decided reread-decided (gameBytes t) t buffers file (fit, file) (counts-back t (gameBytes t) back) (ap GameFields.lists back)
+    same-good-run GameFields.call call game-decided reread-decided (gameBytes t) t buffers file (fit, file) (counts-back t (gameBytes t) back) (ap GameFields.lists back)

@@ -16,7 +16,7 @@ use Rattle.model.specs.calls.RereadPlan.{PlanOf, filesOf, rows, call, re
 use Rattle.model.specs.Demand1.{Clause}
 use Rattle.model.proofs.Rows.{Decided, Any, decided-of, decided-append, decided-known}
 use Rattle.model.proofs.Checks.{pair-decided}
-use Rattle.model.proofs.Call.{clause, same-run}
+use Rattle.model.proofs.Call.{clause, same-good-run}
 use Rattle.model.proofs.Bits.{length-fields}
 use Rattle.model.proofs.Fields.{plan-fields-fit-iff}
 use Rattle.model.proofs.PlanTrips.{plan-fields-trip}
@@ -41,4 +41,4 @@ demand2 game d1 d2 w out fit good =
     let plan = planBytes d1 d2 w in
     let (first, second, weights) = plan-fields-trip d1 d2 w g (plan-fields-fit-iff t .passes fit) (good .1) in
     let count : planMoves g ≡ length w = sym (length-fields plan (weightBit 0) 12 (planMoves g)) ∙ ap length weights in
-    same-run PlanFields.call call pair-decided reread-decided (files game plan) (record { game = game; fields = t }) (out, tt) good (fit, good) (λ i. record { d1 = first i; d2 = second i; count = count i }) (ap (λ (l : List ℕ). (l, tt)) weights)
+    same-good-run PlanFields.call call pair-decided reread-decided (files game plan) (record { game = game; fields = t }) (out, tt) good (fit, good) (λ i. record { d1 = first i; d2 = second i; count = count i }) (ap (λ (l : List ℕ). (l, tt)) weights)

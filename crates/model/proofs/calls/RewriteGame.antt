@@ -11,7 +11,7 @@ use Rattle.model.specs.calls.RewriteGame.{call, rewriteGame}
 use Rattle.model.specs.Demand1.{Clause}
 use Rattle.model.specs.Demand2.{IsBytes}
 use Rattle.model.proofs.Checks.{game-decided}
-use Rattle.model.proofs.Call.{clause, same-run}
+use Rattle.model.proofs.Call.{clause, same-good-run}
 use Rattle.model.proofs.Fields.{fields-fit-iff}
 use Rattle.model.proofs.GameTrips.{game-file-trip}
 use Rattle.model.proofs.calls.WriteGame.{fit-decided}
@@ -25,4 +25,4 @@ unfolding call WriteGame.call
 demand2 game out small file =
     let t = fieldsOf (gameOf game) in
     let (fit, back) = game-file-trip game small file in
-    same-run WriteGame.call call fit-decided game-decided t game (out, tt) (fields-fit-iff t .holds fit) file (ap length back) (ap (λ (l : List ℕ). (l, tt)) back)
+    same-good-run WriteGame.call call fit-decided game-decided t game (out, tt) (fields-fit-iff t .holds fit) file (ap length back) (ap (λ (l : List ℕ). (l, tt)) back)

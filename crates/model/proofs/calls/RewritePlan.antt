@@ -13,7 +13,7 @@ use Rattle.model.specs.calls.RewritePlan.{call, rewritePlan}
 use Rattle.model.specs.Demand1.{Clause}
 use Rattle.model.specs.Demand2.{IsBytes}
 use Rattle.model.proofs.Checks.{pair-decided}
-use Rattle.model.proofs.Call.{clause, same-run}
+use Rattle.model.proofs.Call.{clause, same-good-run}
 use Rattle.model.proofs.Fields.{plan-fields-fit-iff}
 use Rattle.model.proofs.PlanTrips.{plan-file-trip}
 use Rattle.model.proofs.calls.WritePlan.{fit-decided}
@@ -29,4 +29,4 @@ demand2 game plan out small good =
     let q = planPairOf g plan in
     let t = planFields (q one .denominator) (q two .denominator) (planWeights g plan) in
     let (fit, back) = plan-file-trip g plan small (good .1) in
-    same-run WritePlan.call call fit-decided pair-decided t (files game plan) (out, tt) (plan-fields-fit-iff t .holds fit) good (ap length back) (ap (λ (l : List ℕ). (l, tt)) back)
+    same-good-run WritePlan.call call fit-decided pair-decided t (files game plan) (out, tt) (plan-fields-fit-iff t .holds fit) good (ap length back) (ap (λ (l : List ℕ). (l, tt)) back)

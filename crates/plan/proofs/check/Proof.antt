@@ -14,8 +14,8 @@ use Rattle.checks.proofs.Chains.{Left, begin, passes, stops-at, ends, fine-test
 use Rattle.game.proofs.Outcomes.{refuses}
 use lib.ListN.{drop}
 use Rattle.plan.specs.declared.PlanAnswer.the-variants.{Refused}
-use Rattle.game.proofs.NodeTests.{few-sets}
-use Rattle.game.proofs.Headers.{header-sets}
+use Rattle.records.proofs.Reading.{few-sets}
+use Rattle.records.proofs.Headers.{header-sets}
 use Rattle.plan.specs.Answers.{planAnswer}
 use Rattle.plan.specs.Weights.{weightByNumber}
 use Rattle.plan.proofs.Forms.{length-is, header-first, header-second, header-denominators}

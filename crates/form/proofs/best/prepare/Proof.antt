@@ -1,8 +1,8 @@
 -- The chains of what leads to the player's sets are his chains.
 use native.Mathlib.Omega.{arith}
 use Rattle.algebra.proofs.Fillings.{filled}
-use Rattle.game.proofs.Headers.{header-sets}
-use Rattle.game.proofs.NodeTests.{few-sets}
+use Rattle.records.proofs.Headers.{header-sets}
+use Rattle.records.proofs.Reading.{few-sets}
 use Rattle.form.proofs.Responding.{few-sequences, chained}
 use Rattle.form.proofs.best.prepare.Statement.{statement}
 use Rattle.form.proofs.best.prepare.Tie as tie

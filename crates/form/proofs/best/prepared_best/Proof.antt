@@ -6,8 +6,8 @@ use mir.Syntax.{w64}
 use mir.Facts.{toZ-ofZ}
 use Rattle.model.specs.Game.{gameOf, playerOf}
 use Rattle.model.proofs.Budget.{game-limits}
-use Rattle.game.proofs.Headers.{header-nodes, header-sets}
-use Rattle.game.proofs.NodeTests.{few-sets}
+use Rattle.records.proofs.Headers.{header-nodes, header-sets}
+use Rattle.records.proofs.Reading.{few-sets}
 use Rattle.form.proofs.Responding.{few-sequences, response-ready, best-count, moves-are}
 use Rattle.form.proofs.best.prepared_best.Statement.{statement}
 use Rattle.form.proofs.best.prepared_best.Tie as tie

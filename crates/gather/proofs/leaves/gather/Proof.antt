@@ -7,7 +7,7 @@ use lib.ListN.{length}
 use Rattle.model.specs.Game.{gameOf, one, two}
 use Rattle.model.specs.Table.{ownNumber}
 use Rattle.model.proofs.Budget.{game-limits}
-use Rattle.game.proofs.Headers.{header-nodes, header-records}
+use Rattle.records.proofs.Headers.{header-nodes, header-records}
 use Rattle.gather.specs.Leaves.{leavesBelow}
 use Rattle.gather.proofs.Gathering.{leaves-few, Gathering, gathered-none, gathered-long, gathered-room, gathered-more, count-none, count-more, count-all}
 use Rattle.gather.proofs.LeafColumns.{column-all}

@@ -1,9 +1,9 @@
 -- Each slice holds what it was filled with.
 use native.Mathlib.Omega.{arith}
 use Rattle.algebra.proofs.Fillings.{filled}
-use Rattle.game.proofs.Headers.{header-nodes, header-sets, header-framed}
-use Rattle.game.proofs.NodeTests.{few-sets}
-use Rattle.game.proofs.Rooted.{rules-rooted}
+use Rattle.records.proofs.Headers.{header-nodes, header-sets, header-framed}
+use Rattle.records.proofs.Reading.{few-sets}
+use Rattle.records.proofs.Rooted.{rules-rooted}
 use Rattle.gather.proofs.numbers.own_numbers.Statement.{statement}
 use Rattle.gather.proofs.numbers.own_numbers.Tie as tie
 

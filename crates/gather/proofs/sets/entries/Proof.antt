@@ -7,8 +7,8 @@ use lib.ListN.{length}
 use Rattle.algebra.proofs.Fillings.{Filling, filling-none, filling-more, filling-long, filling-all}
 use Rattle.model.specs.Game.{gameOf}
 use Rattle.model.specs.Writing.{playerField}
-use Rattle.game.proofs.NodeTests.{few-sets}
-use Rattle.game.proofs.Columns.{set-player}
+use Rattle.records.proofs.Reading.{few-sets}
+use Rattle.records.proofs.Fields.{set-player}
 use Rattle.gather.proofs.sets.entries.Statement.{statement}
 use Rattle.gather.proofs.sets.entries.Tie as tie
 

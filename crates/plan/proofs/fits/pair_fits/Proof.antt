@@ -2,9 +2,9 @@
 use native.Mathlib.Omega.{arith}
 use borrow.Author.Needs.{needs}
 use Rattle.algebra.proofs.Fillings.{filled}
-use Rattle.game.proofs.NodeTests.{few-sets}
-use Rattle.game.proofs.Headers.{header-sets, header-framed}
-use Rattle.game.proofs.Rooted.{rules-rooted}
+use Rattle.records.proofs.Reading.{few-sets}
+use Rattle.records.proofs.Headers.{header-sets, header-framed}
+use Rattle.records.proofs.Rooted.{rules-rooted}
 use Rattle.plan.proofs.Balance.{pair-broken, pair-second}
 use Rattle.plan.proofs.fits.pair_fits.Statement.{statement}
 use Rattle.plan.proofs.fits.pair_fits.Tie as tie

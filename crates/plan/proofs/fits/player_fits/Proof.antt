@@ -5,9 +5,9 @@ use borrow.Author.Needs.{needs}
 use Rattle.algebra.proofs.Fillings.{filled}
 use Rattle.model.specs.Game.{gameOf, playerOf}
 use Rattle.model.specs.Plan.{fits}
-use Rattle.game.proofs.Headers.{header-nodes, header-sets, header-framed}
+use Rattle.records.proofs.Headers.{header-nodes, header-sets, header-framed}
 use Rattle.checks.proofs.Passes.{Passed, passed-none, passed-more, passed-not, passed-all}
-use Rattle.game.proofs.Rooted.{rules-rooted}
+use Rattle.records.proofs.Rooted.{rules-rooted}
 use Rattle.plan.proofs.Balance.{balanceTest}
 use Rattle.plan.proofs.fits.player_fits.Statement.{statement}
 use Rattle.plan.proofs.fits.player_fits.Tie as tie

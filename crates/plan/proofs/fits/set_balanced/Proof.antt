@@ -6,9 +6,10 @@ use lib.Dec.{T, eqb}
 use lib.ListN.{getD}
 use Rattle.model.specs.Game.{gameOf, playerOf, owns}
 use Rattle.model.proofs.Tree.{owner}
-use Rattle.game.proofs.NodeTests.{few-sets}
-use Rattle.game.proofs.Leading.{first-found, leading-is}
-use Rattle.plan.proofs.Balance.{Stand, stand, own-set, other-set}
+use Rattle.records.proofs.Reading.{few-sets}
+use Rattle.sequences.proofs.Leading.{first-found, leading-is}
+use Rattle.sequences.proofs.OwnSets.{own-set}
+use Rattle.plan.proofs.Balance.{Stand, stand, other-set}
 use Rattle.plan.proofs.fits.set_balanced.Statement.{statement}
 use Rattle.plan.proofs.fits.set_balanced.Tie as tie
 

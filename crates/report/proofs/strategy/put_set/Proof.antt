@@ -1,6 +1,6 @@
 -- The line of a set of the player's is put; any other set leaves the buffer as it was.
 use borrow.Author.Needs.{needs}
-use Rattle.plan.proofs.Balance.{own-set, not-own-set}
+use Rattle.sequences.proofs.OwnSets.{own-set, not-own-set}
 use Rattle.text.proofs.Puts.{put-none}
 use Rattle.report.proofs.Strategies.{line-own, line-other}
 use Rattle.report.proofs.strategy.put_set.Statement.{statement}

@@ -5,7 +5,7 @@ use mathlib.Core.List.{List}
 use native.Mathlib.Omega.{arith}
 use Rattle.algebra.specs.Bounded.{joinTo}
 use Rattle.model.specs.Game.{gameOf, playerOf}
-use Rattle.game.proofs.NodeTests.{few-sets}
+use Rattle.records.proofs.Reading.{few-sets}
 use Rattle.text.specs.Text.{Room, Put}
 use Rattle.report.specs.Whole.{setLine, strategyLines}
 use Rattle.text.proofs.Puts.{put-long}

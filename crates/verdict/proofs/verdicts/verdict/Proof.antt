@@ -6,7 +6,7 @@ use Rattle.model.specs.Game.{gameOf, one, two}
 use Rattle.model.specs.Plan.{planPairOf}
 use Rattle.verdict.proofs.Evaluated.{EvaluationOpened, evaluation-opened, evaluation-sent}
 use Rattle.verdict.proofs.Judged.{pair-refused, accepted-given, strategy-given, base-is, base-asks, judge-asks, judged-as, show-asks, first-deviates, second-deviates}
-use Rattle.verdict.proofs.Judging.{says-equilibrium}
+use Rattle.judgement.proofs.Judging.{says-equilibrium}
 use Rattle.verdict.proofs.verdicts.verdict.Statement.{statement}
 use Rattle.verdict.proofs.verdicts.verdict.Tie as tie
 

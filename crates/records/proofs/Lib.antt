@@ -1,0 +1,5 @@
+pub mod Fields
+pub mod Headers
+mod Payloads
+pub mod Reading
+pub mod Rooted

@@ -1,0 +1,5 @@
+mod Depths
+mod Masks
+mod Moves
+mod NodeTests
+mod Weights
