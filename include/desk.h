@@ -1,6 +1,6 @@
 /*
- * The library for C, and for any language that calls C: rt staticlib ffi writes
- * target/staticlib/libffi.a, to be linked into x86-64 Linux programs.
+ * The library for C, and for any language that calls C: rt staticlib desk_exports writes
+ * target/staticlib/libdesk_exports.a, to be linked into x86-64 Linux programs.
  *
  * A slice is passed as a pointer and, right after it, its length in entries. The pointer is never
  * NULL, not even where the length is 0. Everything that a call writes to is lent to it alone: no
@@ -13,6 +13,8 @@
  *
  * Nothing is kept between calls, so calls may be made from several threads. A call works on its
  * stack: 2 MiB are enough as measured; nothing proves it.
+ *
+ * Written by native/derived_files from crates/desk_exports/src/lib.rt.
  */
 #ifndef DESK_H
 #define DESK_H
@@ -32,10 +34,10 @@ uint64_t desk_check_game(
     uint64_t *root_weight);
 
 /*
- * All fields of a game, one buffer each. By set, H entries: player (0 is player 1) and move
- * count. By node, N entries: kind (0 leaf, 1 decision, 2 chance), parent, move at the parent,
- * chance weight, a decision's set, a chance node's move count and a leaf's two payoffs; what a
- * kind lacks is 0.
+ * All fields of a game, one buffer each. By set, H entries: player (0 is player 1) and move count.
+ * By node, N entries: kind (0 leaf, 1 decision, 2 chance), parent, move at the parent, chance
+ * weight, a decision's set, a chance node's move count and a leaf's two payoffs; what a kind lacks
+ * is 0.
  */
 uint64_t desk_game_fields(
     const uint8_t *game, size_t game_len,
@@ -59,8 +61,7 @@ uint64_t desk_plan_fields(
     uint64_t *weights, size_t weights_len);
 
 /*
- * The payoff table, one buffer a column, and how many rows it has: no more than there are
- * leaves.
+ * The payoff table, one buffer a column, and how many rows it has: no more than there are leaves.
  */
 uint64_t desk_payoff_table(
     const uint8_t *game, size_t game_len,
@@ -71,8 +72,8 @@ uint64_t desk_payoff_table(
     uint64_t *rows);
 
 /*
- * Values over D0 x D1 x D2; player 1's best value over D0 x D2 and player 2's over D0 x D1; and
- * D0, D1 and D2.
+ * Values over D0 x D1 x D2; player 1's best value over D0 x D2 and player 2's over D0 x D1; and D0,
+ * D1 and D2.
  */
 uint64_t desk_values(
     const uint8_t *game, size_t game_len,
@@ -86,10 +87,10 @@ uint64_t desk_values(
     uint64_t *d2);
 
 /*
- * The verdict: player is 0 where the pair is accepted, else the player who is shown to gain.
- * His gain is gain / base, where base is D0 x D1 x D2, and the shown strategy takes moves[0] to
- * moves[count - 1] in his sets, in the order of their numbers. An accepted pair has gain and
- * count 0 and needs no room. 4,095 entries are always enough.
+ * The verdict: `player` is 0 where the pair is accepted, else the player, 1 or 2, who is shown to
+ * gain. His gain is `gain` / `base`, where `base` is D0 x D1 x D2, and the shown strategy takes
+ * `moves[0]` to `moves[count - 1]` in his sets, in the order of their numbers. An accepted pair has
+ * `gain` and `count` 0 and needs no room. 4,095 entries are always enough.
  */
 uint64_t desk_verdict(
     const uint8_t *game, size_t game_len,
@@ -110,13 +111,18 @@ uint64_t desk_report(
     uint8_t *out, size_t out_len,
     uint64_t *size);
 
-/* What it prints for a refusal's number. 29 bytes are always enough. */
+/*
+ * What the desk program prints for a refusal's number, and how many bytes it has. 29 bytes are
+ * always enough.
+ */
 uint64_t desk_refusal_line(
     uint64_t number,
     uint8_t *out, size_t out_len,
     uint64_t *size);
 
-/* Writes a plan file, from all weights as one list in file order, and gives its length. */
+/*
+ * Writes a plan file, from D1, D2 and all weights as one list in file order, and gives its length.
+ */
 uint64_t desk_write_plan(
     uint64_t d1,
     uint64_t d2,
@@ -124,7 +130,10 @@ uint64_t desk_write_plan(
     uint8_t *out, size_t out_len,
     uint64_t *size);
 
-/* Writes a game file, from fields as desk_game_fields gives them, and gives its length. */
+/*
+ * Writes a game file, from D0 and all fields as `desk_game_fields` gives them, and gives its
+ * length.
+ */
 uint64_t desk_write_game(
     uint64_t root_weight,
     const uint64_t *set_players, size_t set_players_len,

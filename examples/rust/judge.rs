@@ -2,25 +2,13 @@
 
 use std::{env, fs, process};
 
+/// The library's declarations for Rust.
+#[allow(dead_code)]
+#[path = "../../native/desk/src/exports.rs"]
+mod exports;
+
 /// As many entries as any strategy has, and more.
 const MOVES: usize = 4_095;
-
-#[link(name = "ffi", kind = "static")]
-extern "C" {
-    /// A slice is passed as a pointer and its length.
-    fn desk_verdict(
-        game: *const u8,
-        game_len: usize,
-        plan: *const u8,
-        plan_len: usize,
-        player: *mut u64,
-        gain: *mut i64,
-        base: *mut u64,
-        count: *mut u64,
-        moves: *mut u64,
-        moves_len: usize,
-    ) -> u64;
-}
 
 enum Verdict {
     Accepted,
@@ -40,7 +28,7 @@ fn verdict(game: &[u8], plan: &[u8]) -> Result<Verdict, u64> {
     // Each pointer is that of a slice or a number that lives through the call, and nothing that
     // is written to is reached by two of them.
     let refusal = unsafe {
-        desk_verdict(
+        exports::desk_verdict(
             game.as_ptr(),
             game.len(),
             plan.as_ptr(),

@@ -1,4 +1,4 @@
-//! Links the static library that `rt staticlib ffi` writes.
+//! Says where the static library stands, which `src/exports.rs` names.
 
 use std::path::Path;
 
@@ -6,9 +6,5 @@ fn main() {
     let root = std::env::var("CARGO_MANIFEST_DIR").expect("cargo sets it");
     let archives = Path::new(&root).join("../../target/staticlib");
     println!("cargo:rustc-link-search=native={}", archives.display());
-    println!("cargo:rustc-link-lib=static=ffi");
-    println!(
-        "cargo:rerun-if-changed={}",
-        archives.join("libffi.a").display()
-    );
+    println!("cargo:rerun-if-changed={}", archives.display());
 }

@@ -93,19 +93,19 @@ module _ {A : Type 0} (d : A) (f : ℕ → A) (bound : ℕ) (l : List A) where
   filling-all n k h b = let e : n ≡ bound = omega arith in rw e at (h .1)
 
 -- k has f from place `low` to `high`, and past that what l has
-pub record Given {A : Type 0} (d : A) (f : ℕ → A) (low high : ℕ) (l k : List A) : Type 0 where
+pub record HoldsFrom {A : Type 0} (d : A) (f : ℕ → A) (low high : ℕ) (l k : List A) : Type 0 where
   pub long : length k ≡ length l
   pub at : (i : ℕ) → low ≤ i → i < high → getD k i d ≡ f i
   pub past : (i : ℕ) → high ≤ i → getD k i d ≡ getD l i d
 
 module _ {A : Type 0} {d : A} where
   -- nothing is given yet
-  pub given-none : (f : ℕ → A) (n : ℕ) (l : List A) → Given d f n n l l
-  given-none f n l = record { long = refl; at = λ i a b. absurd (omega arith); past = λ i a. refl }
+  pub holds-from-none : (f : ℕ → A) (n : ℕ) (l : List A) → HoldsFrom d f n n l l
+  holds-from-none f n l = record { long = refl; at = λ i a b. absurd (omega arith); past = λ i a. refl }
 
   -- one entry is given, and the others that count are as before
-  pub given-set : {f h : ℕ → A} {low lower high : ℕ} {l k : List A} (p : ℕ) (x : A) → Given d f low high l k → high ≤ length l → p < high → x ≡ h p → ((i : ℕ) → lower ≤ i → i < high → ¬ (i ≡ p) → (low ≤ i) × (f i ≡ h i)) → Given d h lower high l (set k p x)
-  given-set {f} {h} {low} {lower} {high} {l} {k} p x g b v e others = record {
+  pub holds-from-set : {f h : ℕ → A} {low lower high : ℕ} {l k : List A} (p : ℕ) (x : A) → HoldsFrom d f low high l k → high ≤ length l → p < high → x ≡ h p → ((i : ℕ) → lower ≤ i → i < high → ¬ (i ≡ p) → (low ≤ i) × (f i ≡ h i)) → HoldsFrom d h lower high l (set k p x)
+  holds-from-set {f} {h} {low} {lower} {high} {l} {k} p x g b v e others = record {
     long = length-set k p x ∙ g .long;
     at = each;
     past = λ i a. getD-set-other k p i x d (λ q. omega arith) ∙ g .past i a;
@@ -119,24 +119,24 @@ module _ {A : Type 0} {d : A} where
           ]
 
   -- an array that is filled has its entries
-  pub given-over : (f : ℕ → A) (n : ℕ) (l k : List A) → n ≤ length l → k ≡ over f n l → Given d f 0 n l k
-  given-over f n l k b e = record {
+  pub holds-from-over : (f : ℕ → A) (n : ℕ) (l k : List A) → n ≤ length l → k ≡ over f n l → HoldsFrom d f 0 n l k
+  holds-from-over f n l k b e = record {
     long = ap length e ∙ length-over d f n l b;
     at = λ i _ v. ap (λ (z : List A). getD z i d) e ∙ over-at d f n l i v;
     past = λ i v. ap (λ (z : List A). getD z i d) e ∙ over-past d f n l i v;
   }
 
   -- what is given anew twice is what was given last
-  pub given-twice : {f h : ℕ → A} {low n : ℕ} {l m k : List A} → Given d h low n l m → Given d f low n m k → Given d f low n l k
-  given-twice g o = record { long = o .long ∙ g .long; at = o .at; past = λ i v. o .past i v ∙ g .past i v }
+  pub holds-from-twice : {f h : ℕ → A} {low n : ℕ} {l m k : List A} → HoldsFrom d h low n l m → HoldsFrom d f low n m k → HoldsFrom d f low n l k
+  holds-from-twice g o = record { long = o .long ∙ g .long; at = o .at; past = λ i v. o .past i v ∙ g .past i v }
 
   -- and one that has them all is filled
-  pub given-all : {f : ℕ → A} {n : ℕ} {l k : List A} → Given d f 0 n l k → n ≤ length l → k ≡ over f n l
-  given-all {f} {n} {l} {k} g b = over-is d f n l k b (g .long) (λ i v. g .at i (omega arith) v) (g .past)
+  pub holds-from-all : {f : ℕ → A} {n : ℕ} {l k : List A} → HoldsFrom d f 0 n l k → n ≤ length l → k ≡ over f n l
+  holds-from-all {f} {n} {l} {k} g b = over-is d f n l k b (g .long) (λ i v. g .at i (omega arith) v) (g .past)
 
 -- one of the filled places given anew, where the others are as before
 pub over-set : {A : Type 0} (d : A) (f h : ℕ → A) (n : ℕ) (l : List A) (s : ℕ) (x : A) → n ≤ length l → s < n → x ≡ h s → ((i : ℕ) → ¬ (i ≡ s) → f i ≡ h i) → set (over f n l) s x ≡ over h n l
-over-set d f h n l s x b v e others = given-all {d = d} (given-set s x (given-over f n l (over f n l) b refl) b v e (λ i a u q. (omega arith, others i q))) b
+over-set d f h n l s x b v e others = holds-from-all {d = d} (holds-from-set s x (holds-from-over f n l (over f n l) b refl) b v e (λ i a u q. (omega arith, others i q))) b
 
 -- an array of numbers that is filled holds them
 pub filled : {f : ℕ → ℕ} {n : ℕ} {k : List ℕ} (l : List ℕ) → k ≡ over f n l → n ≤ length l → Holds f n k
@@ -152,6 +152,6 @@ holds-none f n k l e b none = record {
 -- one entry is given anew, and the others are as before
 pub holds-more : (f h : ℕ → ℕ) (n : ℕ) (l : List ℕ) (p x : ℕ) → Holds f n l → p < n → x ≡ h p → ((i : ℕ) → ¬ (i ≡ p) → f i ≡ h i) → Holds h n (set l p x)
 holds-more f h n l p x held b here others =
-    let g : Given 0 f 0 n l l = record { long = refl; at = λ i a v. held .at i v; past = λ i a. refl } in
-    let o : Given 0 h 0 n l (set l p x) = given-set p x g (held .long) b here (λ i a v q. (omega arith, others i q)) in
+    let g : HoldsFrom 0 f 0 n l l = record { long = refl; at = λ i a v. held .at i v; past = λ i a. refl } in
+    let o : HoldsFrom 0 h 0 n l (set l p x) = holds-from-set p x g (held .long) b here (λ i a v q. (omega arith, others i q)) in
     record { long = omega (arith, o .long, held .long); at = λ i v. o .at i (omega arith) v }

@@ -6,10 +6,10 @@ use native.Mathlib.Omega.{arith}
 use lib.IntN.{ℤ, pos, negsuc, negℤ, _+ℤ_, _-ℤ_, _*ℤ_, natAbs}
 use mir.Syntax.{Width}
 use mir.Val.{SFits, hbits}
-use Rattle.algebra.specs.Bounded.{sumTo, sumWhere, countTo, maxUpTo}
+use Rattle.algebra.specs.Bounded.{sumTo, sumWhere, totalTo, maxThrough}
 use Rattle.algebra.proofs.Integers.{up, down, add-is}
-use Rattle.algebra.proofs.Searches.{maxUpTo-met}
-use Rattle.algebra.proofs.Counts.{only, count-cong, count-term}
+use Rattle.algebra.proofs.Searches.{maxThrough-met}
+use Rattle.algebra.proofs.Totals.{only, count-cong, count-term}
 use Rattle.algebra.proofs.Sums.{onlyZ}
 
 -- the size is the parts' sum
@@ -42,8 +42,8 @@ abs-scale w (pos a) = refl
 abs-scale w (negsuc b) = abs-neg (pos (w * suc b))
 
 -- the size of a sum of many
-pub abs-sum : (n : ℕ) (f : ℕ → ℤ) → natAbs (sumTo n f) ≤ countTo n (λ i. natAbs (f i))
-unfolding sumTo countTo
+pub abs-sum : (n : ℕ) (f : ℕ → ℤ) → natAbs (sumTo n f) ≤ totalTo n (λ i. natAbs (f i))
+unfolding sumTo totalTo
 abs-sum zero f = omega arith
 abs-sum (suc n) f = omega (arith, abs-sum n f, abs-add (sumTo n f) (f n))
 
@@ -53,14 +53,14 @@ abs-only true z = refl
 abs-only false z = refl
 
 -- the size of a sum over the numbers that pass
-pub abs-where : (n : ℕ) (t : ℕ → Bool) (f : ℕ → ℤ) → natAbs (sumWhere n t f) ≤ countTo n (λ i. only (t i) (natAbs (f i)))
+pub abs-where : (n : ℕ) (t : ℕ → Bool) (f : ℕ → ℤ) → natAbs (sumWhere n t f) ≤ totalTo n (λ i. only (t i) (natAbs (f i)))
 unfolding sumWhere
 abs-where n t f =
     omega (arith, abs-sum n (λ i. onlyZ (t i) (f i)), count-cong n (λ i. natAbs (onlyZ (t i) (f i))) (λ i. only (t i) (natAbs (f i))) (λ i l. abs-only (t i) (f i)))
 
 -- the size of the greatest
-pub abs-max : (n : ℕ) (f : ℕ → ℤ) → natAbs (maxUpTo n f) ≤ countTo (suc n) (λ i. natAbs (f i))
-abs-max n f = let m = maxUpTo-met n f in omega (arith, ap natAbs (m .2), count-term (suc n) (λ i. natAbs (f i)) (m .0) (omega arith))
+pub abs-max : (n : ℕ) (f : ℕ → ℤ) → natAbs (maxThrough n f) ≤ totalTo (suc n) (λ i. natAbs (f i))
+abs-max n f = let m = maxThrough-met n f in omega (arith, ap natAbs (m .2), count-term (suc n) (λ i. natAbs (f i)) (m .0) (omega arith))
 
 -- an integer smaller than half a width's numbers is in its range
 pub sfits-abs : (w : Width) (z : ℤ) → natAbs z < 2 ^ hbits w → SFits w z

@@ -9,7 +9,7 @@ use lib.Dec.{T, ltb, ltb→lt, lt→ltb}
 use mir.Facts.{and-yes, yes-and}
 use lib.IntN.{ℤ}
 use lib.Signed.{_≤ℤ_, ltZ, ltZ-yes, ltZ-no, ≤ℤ-refl}
-use Rattle.algebra.specs.Bounded.{allTo, anyTo, firstTo, larger, maxUpTo}
+use Rattle.algebra.specs.Bounded.{allTo, anyTo, firstTo, larger, maxThrough}
 use Rattle.algebra.proofs.Tests.{dec, cond-no, bool-same, or-left, or-right, false→not, not→false}
 use Rattle.algebra.proofs.Integers.{≤ℤ-trans, <ℤ→≤ℤ}
 
@@ -168,27 +168,27 @@ larger-right a b = go (ltZ a b) refl
     go false e = ltZ-no (subst (λ (t : Bool). T (not t)) (sym e) tt)
 
 -- each is at most the greatest
-pub maxUpTo-above : (n : ℕ) (f : ℕ → ℤ) (i : ℕ) → i ≤ n → f i ≤ℤ maxUpTo n f
-unfolding maxUpTo
-maxUpTo-above zero f i l = subst (λ (k : ℕ). f k ≤ℤ f 0) (omega arith) (≤ℤ-refl (f 0))
-maxUpTo-above (suc n) f i l =
+pub maxThrough-above : (n : ℕ) (f : ℕ → ℤ) (i : ℕ) → i ≤ n → f i ≤ℤ maxThrough n f
+unfolding maxThrough
+maxThrough-above zero f i l = subst (λ (k : ℕ). f k ≤ℤ f 0) (omega arith) (≤ℤ-refl (f 0))
+maxThrough-above (suc n) f i l =
     elim (ℕ-discrete i (suc n)) [
-      | yes e ↦ subst (λ (k : ℕ). f k ≤ℤ larger (maxUpTo n f) (f (suc n))) (sym e) (larger-right (maxUpTo n f) (f (suc n)))
-      | no e ↦ ≤ℤ-trans (maxUpTo-above n f i (omega arith)) (larger-left (maxUpTo n f) (f (suc n)))
+      | yes e ↦ subst (λ (k : ℕ). f k ≤ℤ larger (maxThrough n f) (f (suc n))) (sym e) (larger-right (maxThrough n f) (f (suc n)))
+      | no e ↦ ≤ℤ-trans (maxThrough-above n f i (omega arith)) (larger-left (maxThrough n f) (f (suc n)))
     ]
 
 -- the greatest is one of them
-pub maxUpTo-met : (n : ℕ) (f : ℕ → ℤ) → (i : ℕ) × (i ≤ n) × (maxUpTo n f ≡ f i)
-unfolding maxUpTo larger
-maxUpTo-met zero f = (0, omega arith, refl)
-maxUpTo-met (suc n) f = go (ltZ (maxUpTo n f) (f (suc n))) (maxUpTo-met n f)
+pub maxThrough-met : (n : ℕ) (f : ℕ → ℤ) → (i : ℕ) × (i ≤ n) × (maxThrough n f ≡ f i)
+unfolding maxThrough larger
+maxThrough-met zero f = (0, omega arith, refl)
+maxThrough-met (suc n) f = go (ltZ (maxThrough n f) (f (suc n))) (maxThrough-met n f)
   where
-    go : (b : Bool) → (i : ℕ) × (i ≤ n) × (maxUpTo n f ≡ f i) → (i : ℕ) × (i ≤ suc n) × (cond b (f (suc n)) (maxUpTo n f) ≡ f i)
+    go : (b : Bool) → (i : ℕ) × (i ≤ n) × (maxThrough n f ≡ f i) → (i : ℕ) × (i ≤ suc n) × (cond b (f (suc n)) (maxThrough n f) ≡ f i)
     go true r = (suc n, omega arith, refl)
     go false r = (r .0, omega arith, r .2)
 
 -- the greatest of equal integers
-pub maxUpTo-cong : (n : ℕ) (f h : ℕ → ℤ) → ((i : ℕ) → i ≤ n → f i ≡ h i) → maxUpTo n f ≡ maxUpTo n h
-unfolding maxUpTo
-maxUpTo-cong zero f h e = e 0 (omega arith)
-maxUpTo-cong (suc n) f h e = rw (maxUpTo-cong n f h (λ i l. e i (omega arith)), e (suc n) (omega arith))
+pub maxThrough-cong : (n : ℕ) (f h : ℕ → ℤ) → ((i : ℕ) → i ≤ n → f i ≡ h i) → maxThrough n f ≡ maxThrough n h
+unfolding maxThrough
+maxThrough-cong zero f h e = e 0 (omega arith)
+maxThrough-cong (suc n) f h e = rw (maxThrough-cong n f h (λ i l. e i (omega arith)), e (suc n) (omega arith))

@@ -7,7 +7,7 @@ use native.Mathlib.Decide.{ℕ-discrete}
 use lib.Dec.{T, eqb, eqb→eq, eqb-refl}
 use lib.IntN.{ℤ, pos, _+ℤ_, _*ℤ_, +ℤ-idl, +ℤ-idr, zero-*ℤ, *ℤ-zero}
 use lib.Signed.{_≤ℤ_, ≤ℤ-refl}
-use Rattle.algebra.specs.Bounded.{sumTo, sumWhere, countTo}
+use Rattle.algebra.specs.Bounded.{sumTo, sumWhere, totalTo}
 use Rattle.algebra.proofs.Tests.{cond-yes, cond-no, cond-same}
 use Rattle.algebra.proofs.Integers.{+ℤ-mono, exchange, scale-add, scale-plus}
 
@@ -80,10 +80,10 @@ sum-scale zero w f = *ℤ-zero (pos w)
 sum-scale (suc n) w f = scale-add w (sumTo n f) (f n) ∙ ap (λ (z : ℤ). z +ℤ pos w *ℤ f n) (sum-scale n w f)
 
 -- weights of one integer
-pub sum-weights : (n : ℕ) (x : ℕ → ℕ) (z : ℤ) → sumTo n (λ m. pos (x m) *ℤ z) ≡ pos (countTo n x) *ℤ z
-unfolding sumTo countTo
+pub sum-weights : (n : ℕ) (x : ℕ → ℕ) (z : ℤ) → sumTo n (λ m. pos (x m) *ℤ z) ≡ pos (totalTo n x) *ℤ z
+unfolding sumTo totalTo
 sum-weights zero x z = sym (zero-*ℤ z)
-sum-weights (suc n) x z = ap (λ (y : ℤ). y +ℤ pos (x n) *ℤ z) (sum-weights n x z) ∙ sym (scale-plus (countTo n x) (x n) z)
+sum-weights (suc n) x z = ap (λ (y : ℤ). y +ℤ pos (x n) *ℤ z) (sum-weights n x z) ∙ sym (scale-plus (totalTo n x) (x n) z)
 
 -- a sum of sums, the other way round
 pub sum-swap : (n k : ℕ) (f : ℕ → ℕ → ℤ) → sumTo n (λ i. sumTo k (λ j. f i j)) ≡ sumTo k (λ j. sumTo n (λ i. f i j))

@@ -2,8 +2,17 @@
 use Prim.Native.Nat.{ℕ, _+_, _≤_, _<_}
 use mathlib.Core.Path.{_≡_}
 use mathlib.Core.List.{List, _++_}
+use lib.IntN.{ℤ, pos}
 use lib.ListN.{length, getD, take, drop}
 use Rattle.algebra.specs.Bounded.{listTo}
+
+-- what a list has at a place; 0 past its end
+abbrev pub item : List ℕ → ℕ → ℕ
+item l i = getD l i 0
+
+-- the same of a list of integers
+abbrev pub itemZ : List ℤ → ℕ → ℤ
+itemZ l i = getD l i (pos 0)
 
 -- a list whose entries from `at` on are given anew, as many as l has; the others stay
 unfoldable pub placed : {A : Type 0} → (at : ℕ) → (l out : List A) → List A

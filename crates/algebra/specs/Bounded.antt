@@ -19,9 +19,9 @@ unfoldable pub sumWhere : ℕ → (ℕ → Bool) → (ℕ → ℤ) → ℤ
 sumWhere n test f = sumTo n (λ i. let x = f i in cond (test i) x (pos 0))
 
 -- f 0 + .. + f (n - 1) in ℕ
-unfoldable pub countTo : ℕ → (ℕ → ℕ) → ℕ
-countTo zero f = 0
-countTo (suc n) f = countTo n f + f n
+unfoldable pub totalTo : ℕ → (ℕ → ℕ) → ℕ
+totalTo zero f = 0
+totalTo (suc n) f = totalTo n f + f n
 
 -- every number below n passes
 unfoldable pub allTo : ℕ → (ℕ → Bool) → Bool
@@ -43,9 +43,9 @@ unfoldable pub larger : ℤ → ℤ → ℤ
 larger a b = cond (ltZ a b) b a
 
 -- the greatest of f 0 .. f n
-unfoldable pub maxUpTo : ℕ → (ℕ → ℤ) → ℤ
-maxUpTo zero f = f 0
-maxUpTo (suc n) f = larger (maxUpTo n f) (f (suc n))
+unfoldable pub maxThrough : ℕ → (ℕ → ℤ) → ℤ
+maxThrough zero f = f 0
+maxThrough (suc n) f = larger (maxThrough n f) (f (suc n))
 
 -- f 0 ++ .. ++ f (n - 1)
 unfoldable pub joinTo {ℓ} : {A : Type ℓ} → ℕ → (ℕ → List A) → List A
@@ -58,5 +58,5 @@ listTo n f = joinTo n (λ i. f i ∷ [])
 
 -- to unfold this is to unfold all of this file: for closed computation
 unfoldable pub opened : Unit {0}
-unfolding implies sumTo sumWhere countTo allTo anyTo firstTo larger maxUpTo joinTo listTo
+unfolding implies sumTo sumWhere totalTo allTo anyTo firstTo larger maxThrough joinTo listTo
 opened = tt

@@ -1,12 +1,12 @@
 // A file's bits: fields and runs read from bytes and put into them, and what turns one number into another.
 ghost use mathlib.Core.Path.{_≡_};
 ghost use Prim.Native.Nat.{suc, _+_, _-_, _/_, _%_, _^_, _≤_, _<_};
-ghost use Rattle.model.specs.Bits.{bit, field, signed};
+ghost use Rattle.model.specs.Bits.{bit, field, signed, twosComplement};
 
-pub mod fields;
+pub mod one_field;
 pub mod runs;
 
-pub use fields::put_field;
+pub use one_field::put_field;
 pub use runs::put_run;
 pub use runs::read_run;
 
@@ -18,7 +18,7 @@ fn wide(x: u8) -> u64
 }
 
 // Bit `at` of the bytes, counted from the most significant bit of the first; 0 past their end.
-pub fn bit(bytes: &[u8], at: usize) -> u64
+pub fn read_bit(bytes: &[u8], at: usize) -> u64
     ensures { λ r. ⌜ (r ≡ bit (now (bytes .entry)) at) × (r < 2) ⌝ }
 {
     let i = at / 8;
@@ -32,14 +32,14 @@ pub fn bit(bytes: &[u8], at: usize) -> u64
 
 // The number in the `width` bits from bit `at` on, most significant first; 0 for each bit past the end.
 // The place of the last bit, `at + width - 1`, has to be a `usize`.
-pub fn field(bytes: &[u8], at: usize, width: usize) -> u64
+pub fn read_field(bytes: &[u8], at: usize, width: usize) -> u64
     requires { ⌜ (width ≤ 64) × (at + width ≤ 2 ^ 64) ⌝ }
     ensures { λ r. ⌜ (r ≡ field (now (bytes .entry)) at width) × (r < 2 ^ width) ⌝ }
 {
     let mut value: u64 = 0;
     let mut i: usize = 0;
     while i < width {
-        value = 2 * value + bit(bytes, at + i);
+        value = 2 * value + read_bit(bytes, at + i);
         i += 1;
     }
     value
@@ -69,6 +69,17 @@ pub fn signed16(x: u64) -> i16
         x as i16
     } else {
         -1 - ((65535 - x) as i16)
+    }
+}
+
+// The same number's field, from the integer: `65536 + x` in steps that each fit.
+pub fn unsigned16(x: i16) -> u64
+    ensures { λ r. ⌜ (r ≡ twosComplement 16 x) × (r < 2 ^ 16) ⌝ }
+{
+    if x < 0 {
+        65535 - ((-1 - x) as u64)
+    } else {
+        x as u64
     }
 }
 

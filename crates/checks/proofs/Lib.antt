@@ -1,6 +1,6 @@
-pub mod Answers
 pub mod Chains
 pub mod Files
+pub mod NoBuffer
 pub mod OneBuffer
 pub mod Passes
 pub mod Rooms

@@ -23,9 +23,15 @@ module _ (p : ℕ → Bool) (bound : ℕ) where
   passed-more n b h l is t = (omega arith, allTo-more p n (h .1) (sym is ∙ t))
 
   -- it fails
+  pub passed-false : (n : ℕ) (b : Bool) → n < bound → b ≡ p n → b ≡ false → false ≡ allTo bound p
+  passed-false n b l is f = sym (allTo-stop p bound n l (sym is ∙ f))
+
   pub passed-not : (k n : ℕ) (b : Bool) → n < bound → b ≡ p n → b ≡ false → Broken k ≡ checkedOf k (allTo bound p)
-  passed-not k n b l is f = is-broken k (allTo-stop p bound n l (sym is ∙ f))
+  passed-not k n b l is f = is-broken k (sym (passed-false n b l is f))
 
   -- the bound is reached
+  pub passed-true : (n : ℕ) → Passed p bound n → bound ≤ n → true ≡ allTo bound p
+  passed-true n h l = let e : n ≡ bound = omega arith in sym (rw e at (h .1))
+
   pub passed-all : (k n : ℕ) → Passed p bound n → bound ≤ n → Fine ≡ checkedOf k (allTo bound p)
-  passed-all k n h l = let e : n ≡ bound = omega arith in is-fine k (rw e at (h .1))
+  passed-all k n h l = is-fine k (sym (passed-true n h l))

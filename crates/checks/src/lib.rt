@@ -1,7 +1,9 @@
-// The answer of a check, and the checks that calls share: what every call takes apart by let .. else.
+// The answer of a check, the checks that calls share, and the answer of a call that puts bytes.
 ghost use mathlib.Core.Path.{_≡_};
 ghost use mathlib.Core.Bool.{_&&_};
 ghost use lib.Dec.{leb, ltb};
+ghost use Rattle.model.specs.Exported.{refusalOf};
+ghost use Rattle.checks.specs.Answers.{writeAnswered};
 ghost use Rattle.checks.specs.Checked.{checkedOf, numberOf};
 
 // The answer of one check: it holds, or the number of its refusal.
@@ -50,4 +52,20 @@ pub fn room_and(size: usize, room: usize, later: bool) -> bool
     ensures { λ r. ⌜ r ≡ (leb size room && later) ⌝ }
 {
     if size <= room { later } else { false }
+}
+
+// The answer of what puts bytes into a lent buffer: how many, or the refusal: 17 or 18 of a writer, 1 to 16 or 18 of the report, 18 of a refusal's line.
+pub enum WriteAnswer {
+    Written(usize),
+    Refused(u64),
+}
+
+// The number of an answer's refusal, or 0.
+pub fn refusal(answer: WriteAnswer) -> u64
+    ensures { λ r. ⌜ r ≡ refusalOf (writeAnswered answer) ⌝ }
+{
+    match answer {
+        WriteAnswer::Written(_) => 0,
+        WriteAnswer::Refused(number) => number,
+    }
 }

@@ -6,7 +6,7 @@ use Rattle.model.specs.Game.{Game, one, two}
 use Rattle.model.specs.Writing.{GameFields, fieldLists, playerField, setField, movesField, payoffField}
 
 -- every buffer has room for its field
-pub record Room (h n : ℕ) (b : GameFields) : Type 0 where
+pub record FieldsFit (h n : ℕ) (b : GameFields) : Type 0 where
   pub setPlayers : h ≤ length (b .setPlayers)
   pub setMoves : h ≤ length (b .setMoves)
   pub kinds : n ≤ length (b .kinds)

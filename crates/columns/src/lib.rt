@@ -6,7 +6,7 @@ ghost use Rattle.algebra.specs.Arrays.{over};
 ghost use Rattle.model.specs.Game.{gameOf, one, two};
 ghost use Rattle.model.specs.Writing.{payoffField, playerField, setField, movesField, fieldLists};
 ghost use Rattle.records.specs.Records.{Framed};
-ghost use Rattle.columns.specs.Columns.{Room, filled};
+ghost use Rattle.columns.specs.Columns.{FieldsFit, filled};
 use records::Header;
 use records::NodeRecord;
 use records::Payload;
@@ -111,7 +111,7 @@ pub fn fill_all(
     payoffs1: &mut [i64],
     payoffs2: &mut [i64],
 )
-    requires { ⌜ Framed (now bytes) (header .records) (header .nodes) × (header .sets ≡ gameOf (now bytes) .sets) × Room (header .sets) (header .nodes) (fieldLists (now «set_players») (now «set_moves») (now kinds) (now parents) (now moves) (now weights) (now «node_sets») (now «chance_moves») (now payoffs1) (now payoffs2)) ⌝ }
+    requires { ⌜ Framed (now bytes) (header .records) (header .nodes) × (header .sets ≡ gameOf (now bytes) .sets) × FieldsFit (header .sets) (header .nodes) (fieldLists (now «set_players») (now «set_moves») (now kinds) (now parents) (now moves) (now weights) (now «node_sets») (now «chance_moves») (now payoffs1) (now payoffs2)) ⌝ }
     ensures { λ _. ⌜ fieldLists (now («set_players» .exit)) (now («set_moves» .exit)) (now (kinds .exit)) (now (parents .exit)) (now (moves .exit)) (now (weights .exit)) (now («node_sets» .exit)) (now («chance_moves» .exit)) (now (payoffs1 .exit)) (now (payoffs2 .exit)) ≡ filled (gameOf (now (bytes .entry))) (fieldLists (now («set_players» .entry)) (now («set_moves» .entry)) (now (kinds .entry)) (now (parents .entry)) (now (moves .entry)) (now (weights .entry)) (now («node_sets» .entry)) (now («chance_moves» .entry)) (now (payoffs1 .entry)) (now (payoffs2 .entry))) ⌝ }
 {
     set_columns(bytes, header.sets, set_players, set_moves);

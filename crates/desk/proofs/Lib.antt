@@ -1,2 +1,3 @@
-pub mod Counted
+pub mod Counts
+pub mod CutTexts
 pub mod Texts

@@ -1,4 +1,5 @@
 // Every call by one name: each family of calls has its crate.
+pub use checks::WriteAnswer;
 pub use fields::FieldsAnswer;
 pub use fields::game_fields;
 pub use lookups::GameAnswer;
@@ -17,13 +18,12 @@ pub use plans::plan_fields;
 pub use report::reports::refusal_line;
 pub use report::reports::report;
 pub use rows::Row;
+pub use rows::TableAnswer;
 pub use rows::payoff_rows;
-pub use table::TableAnswer;
 pub use table::payoff_table;
 pub use verdict::ValuesAnswer;
 pub use verdict::VerdictAnswer;
 pub use verdict::values::values;
 pub use verdict::verdicts::verdict;
-pub use writers::WriteAnswer;
 pub use writers::game::write as write_game;
 pub use writers::plan::write as write_plan;

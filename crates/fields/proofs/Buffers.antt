@@ -16,10 +16,10 @@ use Rattle.checks.specs.Checked.{checkedOf, numberOf}
 use Rattle.checks.proofs.Chains.{fine-holds, call-refuses, call-short, call-gives}
 use Rattle.checks.proofs.Files.{game-refuses, game-fine}
 use Rattle.checks.proofs.Rooms.{split, over-after}
-use Rattle.records.specs.declared.Header.{Header}
-use Rattle.columns.specs.Columns.{Room, filled}
+use Rattle.records.specs.declared.game.Header.{Header}
+use Rattle.columns.specs.Columns.{FieldsFit, filled}
 use Rattle.records.proofs.Headers.{header-nodes, header-sets, header-weight}
-use Rattle.game.proofs.Outcomes.{Opened, Sent}
+use Rattle.game.proofs.Refusals.{Opened, RefusedWith}
 
 module _ (bytes : List ℕ) (b : GameFields) where
   -- an answer and buffers that are the call's
@@ -31,7 +31,7 @@ module _ (bytes : List ℕ) (b : GameFields) where
   kept = fieldLists (b .setPlayers) (b .setMoves) (b .kinds) (b .parents) (b .moves) (b .weights) (b .nodeSets) (b .chanceMoves) (b .payoffs1) (b .payoffs2)
 
   -- the game's own refusal
-  pub file-refused : {r : ℕ} → Sent bytes r → Result (refused r) kept
+  pub file-refused : {r : ℕ} → RefusedWith bytes r → Result (refused r) kept
   unfolding call
   file-refused s = sym (call-refuses call game-named bytes (lists b) (game-refuses (s .number) (s .some)))
 
@@ -65,7 +65,7 @@ module _ (bytes : List ℕ) (b : GameFields) where
   no-room x o e f g = sym (call-short call game-named bytes (lists b) (game-fine bytes (o .none)) (e ∙ ap (checkedOf 18) (measured x o)) f g)
 
   -- every buffer has its room
-  pub has-room : (h n : ℕ) {r : Checked} → r ≡ checkedOf 18 (enough h n) → r ≡ Fine → Room h n b
+  pub has-room : (h n : ℕ) {r : Checked} → r ≡ checkedOf 18 (enough h n) → r ≡ Fine → FieldsFit h n b
   has-room h n e f =
       let t0 = split _ _ (fine-holds 18 (enough h n) e f) in
       let t1 = split _ _ (t0 .1) in

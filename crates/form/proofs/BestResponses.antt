@@ -7,16 +7,15 @@ use lib.Dec.{T, ltb, lt→ltb, ltb→lt}
 use lib.IntN.{ℤ, pos}
 use lib.Signed.{leZ}
 use lib.ListN.{length}
-use Rattle.algebra.specs.Bounded.{maxUpTo}
-use Rattle.algebra.specs.Arrays.{over}
+use Rattle.algebra.specs.Bounded.{maxThrough}
+use Rattle.algebra.specs.Arrays.{item, itemZ, over}
 use Rattle.algebra.proofs.Tests.{dec, cond-yes, cond-no}
-use Rattle.algebra.proofs.Searches.{maxUpTo-cong, firstTo-cong}
+use Rattle.algebra.proofs.Searches.{maxThrough-cong, firstTo-cong}
 use Rattle.algebra.proofs.Fillings.{length-over, over-at, over-cong}
 use Rattle.model.specs.Game.{Game, Player, owns}
 use Rattle.model.specs.Sequences.{Sequence, extended, leading, sequenceNumber, sequenceCount}
 use Rattle.model.specs.Plan.{RealizationPlan}
 use Rattle.model.specs.BestResponse.{worthIn, worth, setWorth, bestCount, bestMove}
-use Rattle.model.specs.Writing.{entry, entryZ}
 use Rattle.model.specs.Rules.{GameRules}
 use Rattle.model.proofs.Sequences.{number-empty}
 use Rattle.model.proofs.Tree.{IsSequence, empty, after, leading-sequence}
@@ -26,13 +25,13 @@ use Rattle.responses.specs.PlayerTables.{tablesFor, tableWorth}
 use Rattle.form.specs.Prepared.{Prepared}
 use Rattle.responses.specs.BestMoves.{firstGreatest, bestStored, bestOf}
 use Rattle.form.specs.BestMoves.{ownBestMove}
-use Rattle.form.proofs.Preparing.{lead-own, lead-other, move-at}
+use Rattle.form.proofs.Prepared.{lead-own, lead-other, move-at}
 use Rattle.form.proofs.PreparedTables.{LeafSums, table-worth}
 
 -- By number, the worths of p's sequences against y.
 pub record StoredWorths (g : Game) (p : Player) (y : RealizationPlan) (stored : List ℤ) : Type 0 where
   pub long : sequenceCount g p ≤ length stored
-  pub at : (s : Sequence) → IsSequence g p s → entryZ stored (sequenceNumber g p s) ≡ worth g p y s
+  pub at : (s : Sequence) → IsSequence g p s → itemZ stored (sequenceNumber g p s) ≡ worth g p y s
 
 module _ (g : Game) (R : GameRules g) (p : Player) (y : RealizationPlan) {sums : List ℤ} {head next lead start count node : List ℕ} (P : Prepared g p head next lead start count node) (S : LeafSums g p y sums) where
   -- the recursion's steps are enough
@@ -56,17 +55,17 @@ module _ (g : Game) (R : GameRules g) (p : Player) (y : RealizationPlan) {sums :
 
 module _ (g : Game) (R : GameRules g) (p : Player) (y : RealizationPlan) {head next lead start count node : List ℕ} (P : Prepared g p head next lead start count node) {stored : List ℤ} (W : StoredWorths g p y stored) where
   -- the worths of a set's moves, by move
-  move-worth : (h m : ℕ) → h < g .sets → T (owns g p h) → m < g .setMoves h → entryZ stored (entry start h + m) ≡ worth g p y (extended (leading g h) h m)
+  move-worth : (h m : ℕ) → h < g .sets → T (owns g p h) → m < g .setMoves h → itemZ stored (item start h + m) ≡ worth g p y (extended (leading g h) h m)
   move-worth h m l o b = rw (move-at P h m l o) (W .at (extended (leading g h) h m) (after {h = h} {m = m} l o b))
 
   -- a set's worth is that of its worthiest move
-  pub set-worth-is : (h : ℕ) → h < g .sets → T (owns g p h) → maxUpTo (pred (entry count h)) (λ m. entryZ stored (entry start h + m)) ≡ setWorth g p y h
+  pub set-worth-is : (h : ℕ) → h < g .sets → T (owns g p h) → maxThrough (pred (item count h)) (λ m. itemZ stored (item start h + m)) ≡ setWorth g p y h
   set-worth-is h l o =
       rw (P .count-holds .at h l)
-      (maxUpTo-cong (pred (g .setMoves h)) _ _ (λ m b. move-worth h m l o (omega (arith, R .set-moves h l .0))) ∙ sym (worth-set g p y h))
+      (maxThrough-cong (pred (g .setMoves h)) _ _ (λ m b. move-worth h m l o (omega (arith, R .set-moves h l .0))) ∙ sym (worth-set g p y h))
 
   -- the lowest-numbered worthiest move is the best move
-  best-move-is : (h : ℕ) → h < g .sets → T (owns g p h) → bestStored stored (entry start h) (entry count h) ≡ bestMove g p y h
+  best-move-is : (h : ℕ) → h < g .sets → T (owns g p h) → bestStored stored (item start h) (item count h) ≡ bestMove g p y h
   unfolding bestStored firstGreatest bestMove
   best-move-is h l o =
       rw (set-worth-is h l o, P .count-holds .at h l)
@@ -78,11 +77,11 @@ module _ (g : Game) (R : GameRules g) (p : Player) (y : RealizationPlan) {head n
   best-of-is h l =
       elim (dec (owns g p h)) [
         | yes o ↦
-            cond-yes (ltb (entry lead h) (sequenceCount g p)) _ 0 (lt→ltb (entry lead h) (sequenceCount g p) (omega (arith, lead-own P h l o, number-below g p (leading g h) (leading-sequence g R p h l o))))
+            cond-yes (ltb (item lead h) (sequenceCount g p)) _ 0 (lt→ltb (item lead h) (sequenceCount g p) (omega (arith, lead-own P h l o, number-below g p (leading g h) (leading-sequence g R p h l o))))
             ∙ best-move-is h l o
             ∙ sym (cond-yes (owns g p h) (bestMove g p y h) 0 o)
         | no o ↦
-            cond-no (ltb (entry lead h) (sequenceCount g p)) _ 0 (λ t. omega (arith, lead-other P h l o, ltb→lt (entry lead h) (sequenceCount g p) t))
+            cond-no (ltb (item lead h) (sequenceCount g p)) _ 0 (λ t. omega (arith, lead-other P h l o, ltb→lt (item lead h) (sequenceCount g p) t))
             ∙ sym (cond-no (owns g p h) (bestMove g p y h) 0 o)
       ]
 

@@ -9,6 +9,7 @@ use lib.Dec.{T, eqb, eqb→eq}
 use lib.IntN.{ℤ, pos}
 use mir.Syntax.{w64}
 use mir.Val.{SFits}
+use Rattle.algebra.specs.Arrays.{item}
 use Rattle.algebra.specs.Bounded.{sumTo, sumWhere, anyTo}
 use Rattle.algebra.proofs.Tests.{dec, bool-same, eqb-make}
 use Rattle.algebra.proofs.Searches.{anyTo-find, anyTo-make}
@@ -21,7 +22,6 @@ use Rattle.model.specs.Table.{ownNumber}
 use Rattle.model.specs.Earnings.{leafTerm, valueTerm, valueCount}
 use Rattle.model.specs.BestResponse.{leavesWorth}
 use Rattle.model.specs.Rules.{GameRules}
-use Rattle.model.specs.Writing.{entry}
 use Rattle.model.proofs.Budget.{GameLimits, ResponseBudget, Budget}
 use Rattle.model.proofs.Numbers.{number-same}
 use Rattle.model.proofs.Table.{ByNumber}
@@ -78,7 +78,7 @@ module _ (g : Game) (R : GameRules g) (p : Player) (plan : RealizationPlan) wher
           (record { sfits = omega arith })
 
 -- They stand in slices, and y has the plan's weights by number.
-module _ (g : Game) (R : GameRules g) (p : Player) (plan : RealizationPlan) {count : ℕ} {own opponent chance : List ℕ} {payoffs : List ℤ} (y : List ℕ) (L : PlayerLeaves g p count own opponent chance payoffs) (N : ByNumber g (other p) plan (entry y)) where
+module _ (g : Game) (R : GameRules g) (p : Player) (plan : RealizationPlan) {count : ℕ} {own opponent chance : List ℕ} {payoffs : List ℤ} (y : List ℕ) (L : PlayerLeaves g p count own opponent chance payoffs) (N : ByNumber g (other p) plan (item y)) where
   -- a place counts what its leaf does
   term-is : (k : ℕ) → k < count → opponentTerm opponent chance payoffs y k ≡ leafTerm g p plan (leafOf g k)
   unfolding opponentTerm leafTerm weightAt
@@ -106,7 +106,7 @@ module _ (g : Game) (R : GameRules g) (p : Player) (plan : RealizationPlan) {cou
       rw (prefix-is j s l, r .2) (numbered-fits g R p plan B s (r .0) (r .1))
 
 -- What `sums` requires of the slices holds, for a player's leaves and weights of the opponent by number.
-pub sums-ready : (g : Game) → GameRules g → GameLimits g → (p : Player) (plan : RealizationPlan) → ResponseBudget g p plan → {count : ℕ} {own opponent chance : List ℕ} {payoffs : List ℤ} {y : List ℕ} → PlayerLeaves g p count own opponent chance payoffs → Weights g (other p) y → ByNumber g (other p) plan (entry y) → SumsReady count (sequenceCount g p) own opponent chance payoffs y
+pub sums-ready : (g : Game) → GameRules g → GameLimits g → (p : Player) (plan : RealizationPlan) → ResponseBudget g p plan → {count : ℕ} {own opponent chance : List ℕ} {payoffs : List ℤ} {y : List ℕ} → PlayerLeaves g p count own opponent chance payoffs → Weights g (other p) y → ByNumber g (other p) plan (item y) → SumsReady count (sequenceCount g p) own opponent chance payoffs y
 sums-ready g R M p plan B {count} {own} {opponent} {chance} {payoffs} {y} L W N = record {
   own-long = omega (arith, L .counted, L .own-is .long);
   opponent-long = omega (arith, L .counted, L .opponent-is .long);
@@ -115,18 +115,18 @@ sums-ready g R M p plan B {count} {own} {opponent} {chance} {payoffs} {y} L W N 
   own-below = λ k l. column-below g R p (L .own-is) k (in-all k l);
   opponent-below = λ k l. omega (arith, W .long, facing k l);
   chance-small = λ k l. rw (L .chance-is .at 0 k (in-all k l)) (M .weights (leafOf g k));
-  weight-small = λ k l. W .small (entry opponent k) (facing k l);
+  weight-small = λ k l. W .small (item opponent k) (facing k l);
   fit = λ n s l. partial-fits g R p plan y L N (B .leaves) n s l;
 }
   where
     in-all : (k : ℕ) → k < count → k < length (leavesOf g)
     in-all k l = omega (arith, L .counted)
 
-    facing : (k : ℕ) → k < count → entry opponent k < sequenceCount g (other p)
+    facing : (k : ℕ) → k < count → item opponent k < sequenceCount g (other p)
     facing k l = column-below g R (other p) (L .opponent-is) k (in-all k l)
 
 -- All leaves against a pair of plans, whose weights x and y have by number.
-module _ (g : Game) (R : GameRules g) (q : PlanPair) {count : ℕ} {first second chance : List ℕ} {payoffs1 payoffs2 : List ℤ} (x y : List ℕ) (L : Gathered g count first second chance payoffs1 payoffs2) (N1 : ByNumber g one (q one) (entry x)) (N2 : ByNumber g two (q two) (entry y)) (p : Player) where
+module _ (g : Game) (R : GameRules g) (q : PlanPair) {count : ℕ} {first second chance : List ℕ} {payoffs1 payoffs2 : List ℤ} (x y : List ℕ) (L : Gathered g count first second chance payoffs1 payoffs2) (N1 : ByNumber g one (q one) (item x)) (N2 : ByNumber g two (q two) (item y)) (p : Player) where
   -- p's payoffs
   payoffs-are : Column g (g .payoff p) (ofPlayer p payoffs1 payoffs2)
   payoffs-are = player-leaves g p L .payoffs-is
@@ -157,8 +157,8 @@ module _ (g : Game) (R : GameRules g) (q : PlanPair) {count : ℕ} {first second
     first-below = λ k l. omega (arith, W1 .long, column-below g R one (L .first-is) k (in-all k l));
     second-below = λ k l. omega (arith, W2 .long, column-below g R two (L .second-is) k (in-all k l));
     chance-small = λ k l. rw (L .chance-is .at 0 k (in-all k l)) (M .weights (leafOf g k));
-    first-small = λ k l. W1 .small (entry first k) (column-below g R one (L .first-is) k (in-all k l));
-    second-small = λ k l. W2 .small (entry second k) (column-below g R two (L .second-is) k (in-all k l));
+    first-small = λ k l. W1 .small (item first k) (column-below g R one (L .first-is) k (in-all k l));
+    second-small = λ k l. W2 .small (item second k) (column-below g R two (L .second-is) k (in-all k l));
     fit = λ n l. let r = leaves-prefix g (valueTerm g q p) n (omega (arith, L .counted)) in rw (pairs-are n l, r .2) (B .value p (r .0) (r .1));
   }
     where

@@ -1,7 +1,7 @@
 pub mod BestResponses
-pub mod Evaluating
+pub mod Evaluation
 pub mod LeafLaws
 pub mod PairBudget
+pub mod Prepared
 pub mod PreparedTables
-pub mod Preparing
-pub mod Responding
+pub mod Responses

@@ -5,12 +5,13 @@ use mathlib.Core.Bool.{true}
 use mathlib.Core.List.{List}
 use native.Mathlib.Omega.{arith}
 use lib.ListN.{length}
+use Rattle.algebra.specs.Arrays.{item}
 use Rattle.algebra.proofs.Tests.{true→T}
+use Rattle.model.specs.Limits.{countLimit}
 use Rattle.model.specs.Game.{Game, Player, one, two}
 use Rattle.model.specs.Sequences.{sequenceCount}
 use Rattle.model.specs.Plan.{PlanPair, pairFits, Fits}
 use Rattle.model.specs.Rules.{GameRules}
-use Rattle.model.specs.Writing.{entry}
 use Rattle.model.proofs.Budget.{budget, GameLimits, PlanLimits, Budget}
 use Rattle.model.proofs.Numbers.{sequences-few}
 use Rattle.model.proofs.PlanRules.{pair-fits-iff}
@@ -22,21 +23,21 @@ pub both-fit : (g : Game) (q : PlanPair) → pairFits g q ≡ true → (p : Play
 both-fit g q e = pair-fits-iff g q .holds (true→T (pairFits g q) e)
 
 -- there is a weight for each sequence
-long-weights : (g : Game) → GameRules g → GameLimits g → (p : Player) (x : List ℕ) → 4095 ≤ length x → Small (length x) x → Weights g p x
+long-weights : (g : Game) → GameRules g → GameLimits g → (p : Player) (x : List ℕ) → countLimit ≤ length x → Small (length x) x → Weights g p x
 long-weights g R L p x b small =
     let few : sequenceCount g p ≤ length x = omega (arith, sequences-few g R p, L .nodes) in
     record { long = few; small = λ i l. small i (omega arith) }
 
 module _ (g : Game) (R : GameRules g) (L : GameLimits g) {x y : List ℕ} (W : PairWeights g x y) where
   -- the pair's plans
-  pair-limits : (p : Player) → PlanLimits (pairByNumber g (entry x) (entry y) p)
+  pair-limits : (p : Player) → PlanLimits (pairByNumber g (item x) (item y) p)
   unfolding pairByNumber planByNumber
   pair-limits one = record { denominator = W .small1 0 (omega (arith, W .long1)) }
   pair-limits two = record { denominator = W .small2 0 (omega (arith, W .long2)) }
 
   -- the budget is kept
-  pub pair-budget : Budget g (pairByNumber g (entry x) (entry y))
-  pair-budget = budget g R L (pairByNumber g (entry x) (entry y)) (both-fit g (pairByNumber g (entry x) (entry y)) (W .fit)) pair-limits
+  pub pair-budget : Budget g (pairByNumber g (item x) (item y))
+  pair-budget = budget g R L (pairByNumber g (item x) (item y)) (both-fit g (pairByNumber g (item x) (item y)) (W .fit)) pair-limits
 
   -- player 1's weights
   pub weights1 : Weights g one x

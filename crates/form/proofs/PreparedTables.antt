@@ -11,16 +11,15 @@ use mir.Syntax.{w64}
 use mir.Val.{SFits}
 use mir.Facts.{yes-and}
 use Rattle.algebra.specs.Bounded.{sumWhere}
-use Rattle.algebra.specs.Arrays.{over}
+use Rattle.algebra.specs.Arrays.{item, itemZ, over}
 use Rattle.algebra.proofs.Tests.{bool-same, eqb-make}
-use Rattle.algebra.proofs.Searches.{maxUpTo-cong}
+use Rattle.algebra.proofs.Searches.{maxThrough-cong}
 use Rattle.algebra.proofs.Sums.{where-cong, where-tests}
 use Rattle.algebra.proofs.Fillings.{length-over, over-at}
 use Rattle.model.specs.Game.{Game, Player, owns}
 use Rattle.model.specs.Sequences.{Sequence, extended, same, leading, moveNumber, sequenceNumber, sequenceCount}
 use Rattle.model.specs.Plan.{RealizationPlan}
 use Rattle.model.specs.BestResponse.{leadsTo, leavesWorth, worthIn, greatestWorth}
-use Rattle.model.specs.Writing.{entry, entryZ}
 use Rattle.model.specs.Rules.{GameRules}
 use Rattle.model.proofs.Sequences.{eq→same, number-extended}
 use Rattle.model.proofs.Tree.{IsSequence, empty, after, first-in, leading-sequence}
@@ -30,13 +29,13 @@ use Rattle.model.proofs.Budget.{GameLimits, ResponseBudget}
 use Rattle.model.proofs.Reached.{move-found, number-found, first-before}
 use Rattle.responses.specs.PlayerTables.{PlayerTables, tablesFor, tableLeads, tableGreatest, tablePartial, tableWorth, OwnSet, MoveOf, Ready}
 use Rattle.form.specs.Prepared.{Prepared}
-use Rattle.slices.proofs.Chaining.{from-like, next-like}
-use Rattle.form.proofs.Preparing.{lead-own, owned, move-at}
+use Rattle.slices.proofs.ChainLaws.{from-like, next-like}
+use Rattle.form.proofs.Prepared.{lead-own, owned, move-at}
 
 -- By number, what the leaves at each of p's sequences are worth against y.
 pub record LeafSums (g : Game) (p : Player) (y : RealizationPlan) (sums : List ℤ) : Type 0 where
   pub long : sequenceCount g p ≤ length sums
-  pub at : (s : Sequence) → IsSequence g p s → entryZ sums (sequenceNumber g p s) ≡ leavesWorth g p y s
+  pub at : (s : Sequence) → IsSequence g p s → itemZ sums (sequenceNumber g p s) ≡ leavesWorth g p y s
 
 -- as an array filled with them has
 pub sums-over : (g : Game) (p : Player) (y : RealizationPlan) (f : ℕ → ℤ) (before sums : List ℤ) → sequenceCount g p ≤ length before → sums ≡ over f (sequenceCount g p) before → ((s : Sequence) → IsSequence g p s → f (sequenceNumber g p s) ≡ leavesWorth g p y s) → LeafSums g p y sums
@@ -56,7 +55,7 @@ module _ (g : Game) (R : GameRules g) (p : Player) (y : RealizationPlan) {sums :
   sets-are = length-take-le (g .sets) lead (P .chains .lead-holds .long)
 
   -- what leads to a set stands in the part that is lent
-  lead-like : (h : ℕ) → h < g .sets → entry (t .lead) h ≡ entry lead h
+  lead-like : (h : ℕ) → h < g .sets → item (t .lead) h ≡ item lead h
   lead-like h l = getD-take (g .sets) lead h 0 l
 
   -- a set of p's, by the tables
@@ -68,23 +67,23 @@ module _ (g : Game) (R : GameRules g) (p : Player) (y : RealizationPlan) {sums :
   unfolding tableLeads leadsTo
   leads-are s i h l = bool-same (tableLeads t (sequenceNumber g p s) h) (leadsTo g p s h) to from
     where
-      to : T (eqb (entry (t .lead) h) (sequenceNumber g p s)) → T (leadsTo g p s h)
+      to : T (eqb (item (t .lead) h) (sequenceNumber g p s)) → T (leadsTo g p s h)
       to q =
-          let e = eqb→eq (entry (t .lead) h) (sequenceNumber g p s) q in
+          let e = eqb→eq (item (t .lead) h) (sequenceNumber g p s) q in
           let o = owned P h l (omega (arith, e, lead-like h l, number-below g p s i)) in
           yes-and (owns g p h) (same (leading g h) s) o (eq→same (leading g h) s (number-same g p (leading g h) s (leading-sequence g R p h l o) i (sym (lead-own P h l o) ∙ sym (lead-like h l) ∙ e)))
 
-      from : T (leadsTo g p s h) → T (eqb (entry (t .lead) h) (sequenceNumber g p s))
+      from : T (leadsTo g p s h) → T (eqb (item (t .lead) h) (sequenceNumber g p s))
       from q =
           let a = leads-parts g p s h q in
-          eqb-make (entry (t .lead) h) (sequenceNumber g p s) (lead-like h l ∙ lead-own P h l (a .0) ∙ ap (sequenceNumber g p) (a .1))
+          eqb-make (item (t .lead) h) (sequenceNumber g p s) (lead-like h l ∙ lead-own P h l (a .0) ∙ ap (sequenceNumber g p) (a .1))
 
   -- a set's worth, where sequences have theirs
   greatest-is : (f : ℕ) → ((s : Sequence) → IsSequence g p s → tableWorth t f (sequenceNumber g p s) ≡ worthIn g p y f s) → (h : ℕ) → h < g .sets → T (owns g p h) → tableGreatest t (tableWorth t f) h ≡ greatestWorth g (worthIn g p y f) h
   unfolding tableGreatest greatestWorth
   greatest-is f each h l o =
       rw (P .count-holds .at h l)
-      (maxUpTo-cong (pred (g .setMoves h)) _ _ (λ m b. rw (move-at P h m l o) (each (extended (leading g h) h m) (after {h = h} {m = m} l o (omega (arith, R .set-moves h l .0))))))
+      (maxThrough-cong (pred (g .setMoves h)) _ _ (λ m b. rw (move-at P h m l o) (each (extended (leading g h) h m) (after {h = h} {m = m} l o (omega (arith, R .set-moves h l .0))))))
 
   -- a sum with the first k sets
   partial-is : (f : ℕ) → ((s : Sequence) → IsSequence g p s → tableWorth t f (sequenceNumber g p s) ≡ worthIn g p y f s) → (s : Sequence) → IsSequence g p s → (k : ℕ) → k ≤ g .sets → tablePartial t (tableGreatest t (tableWorth t f)) (sequenceNumber g p s) k ≡ leavesWorth g p y s +ℤ sumWhere k (leadsTo g p s) (greatestWorth g (worthIn g p y f))
@@ -122,11 +121,11 @@ module _ (g : Game) (R : GameRules g) (p : Player) (y : RealizationPlan) {sums :
       (l, owned P h l (omega (arith, o .led, lead-like h l, sequences-are)))
 
   -- a move of it, as a sequence
-  move-sequence : (h m : ℕ) → h < g .sets → T (owns g p h) → m < entry count h → IsSequence g p (extended (leading g h) h m)
+  move-sequence : (h m : ℕ) → h < g .sets → T (owns g p h) → m < item count h → IsSequence g p (extended (leading g h) h m)
   move-sequence h m l o b = after {h = h} {m = m} l o (omega (arith, P .count-holds .at h l))
 
   -- the sets that its moves lead to come later
-  later : (h m k : ℕ) → OwnSet t h → m < entry count h → k < length (t .lead) → entry (t .lead) k ≡ entry start h + m → entry node h < entry node k
+  later : (h m k : ℕ) → OwnSet t h → m < item count h → k < length (t .lead) → item (t .lead) k ≡ item start h + m → item node h < item node k
   later h m k own b l e =
       let o = is-own h own in
       let i = move-sequence h m (o .0) (o .1) b in

@@ -3,11 +3,11 @@ ghost use mathlib.Core.Path.{_≡_};
 ghost use mathlib.Core.Bool.{true};
 ghost use Prim.Native.Nat.{_≤_};
 ghost use lib.ListN.{length};
-ghost use Rattle.algebra.specs.Arrays.{Holds, over};
+ghost use Rattle.algebra.specs.Arrays.{item, Holds, over};
+ghost use Rattle.model.specs.Limits.{countLimit};
 ghost use Rattle.model.specs.Game.{gameOf, one, two};
 ghost use Rattle.model.specs.Plan.{pairFits};
 ghost use Rattle.model.specs.Table.{ownNumber};
-ghost use Rattle.model.specs.Writing.{entry};
 ghost use Rattle.model.specs.Rules.{GameRules};
 ghost use Rattle.records.specs.Records.{headerOf};
 ghost use Rattle.sequences.specs.Sets.{countsOf};
@@ -20,6 +20,7 @@ ghost use Rattle.form.specs.Values.{valuesOf, Evaluated, PairWeights};
 use super::Values;
 use super::best;
 use records::Header;
+use records::NodeRecord;
 use sequences::SequenceCounts;
 
 // On what is gathered of the game: its leaves and its sets.
@@ -43,7 +44,7 @@ fn of_gathered(
     moves1: &mut [usize],
     moves2: &mut [usize],
 ) -> Values
-    requires { ⌜ (header ≡ headerOf (now game)) × GameRules (gameOf (now game)) × (counts ≡ countsOf (gameOf (now game))) × Gathered (gameOf (now game)) leaves (now first) (now second) (now chance) (now payoffs1) (now payoffs2) × SetsGathered (gameOf (now game)) (now players) (now count) (now start) (now leads) (now node) × PairWeights (gameOf (now game)) (now x) (now y) × (4095 ≤ length (now moves1)) × (4095 ≤ length (now moves2)) ⌝ }
+    requires { ⌜ (header ≡ headerOf (now game)) × GameRules (gameOf (now game)) × (counts ≡ countsOf (gameOf (now game))) × Gathered (gameOf (now game)) leaves (now first) (now second) (now chance) (now payoffs1) (now payoffs2) × SetsGathered (gameOf (now game)) (now players) (now count) (now start) (now leads) (now node) × PairWeights (gameOf (now game)) (now x) (now y) × (countLimit ≤ length (now moves1)) × (countLimit ≤ length (now moves2)) ⌝ }
     ensures { λ r. ⌜ Evaluated (gameOf (now (game .entry))) (now (x .entry)) (now (y .entry)) (now (moves1 .entry)) (now (moves2 .entry)) (now (moves1 .exit)) (now (moves2 .exit)) r ⌝ }
 {
     let value1 = slices::sums::value(leaves, first, second, chance, payoffs1, x, y);
@@ -111,14 +112,14 @@ fn with_leaves(
     moves1: &mut [usize],
     moves2: &mut [usize],
 ) -> Values
-    requires { ⌜ (header ≡ headerOf (now game)) × GameRules (gameOf (now game)) × (counts ≡ countsOf (gameOf (now game))) × Holds (ownNumber (gameOf (now game)) one) (gameOf (now game) .nodes) (now own1) × Holds (ownNumber (gameOf (now game)) two) (gameOf (now game) .nodes) (now own2) × SetsGathered (gameOf (now game)) (now players) (now count) (now start) (now leads) (now node) × PairWeights (gameOf (now game)) (now x) (now y) × (4095 ≤ length (now moves1)) × (4095 ≤ length (now moves2)) ⌝ }
+    requires { ⌜ (header ≡ headerOf (now game)) × GameRules (gameOf (now game)) × (counts ≡ countsOf (gameOf (now game))) × Holds (ownNumber (gameOf (now game)) one) (gameOf (now game) .nodes) (now own1) × Holds (ownNumber (gameOf (now game)) two) (gameOf (now game) .nodes) (now own2) × SetsGathered (gameOf (now game)) (now players) (now count) (now start) (now leads) (now node) × PairWeights (gameOf (now game)) (now x) (now y) × (countLimit ≤ length (now moves1)) × (countLimit ≤ length (now moves2)) ⌝ }
     ensures { λ r. ⌜ Evaluated (gameOf (now (game .entry))) (now (x .entry)) (now (y .entry)) (now (moves1 .entry)) (now (moves2 .entry)) (now (moves1 .exit)) (now (moves2 .exit)) r ⌝ }
 {
-    let mut first = [0usize; 4095];
-    let mut second = [0usize; 4095];
-    let mut chance = [0u64; 4095];
-    let mut payoffs1 = [0i16; 4095];
-    let mut payoffs2 = [0i16; 4095];
+    let mut first = [0usize; NodeRecord::NODES];
+    let mut second = [0usize; NodeRecord::NODES];
+    let mut chance = [0u64; NodeRecord::NODES];
+    let mut payoffs1 = [0i16; NodeRecord::NODES];
+    let mut payoffs2 = [0i16; NodeRecord::NODES];
     let total = gather::leaves::gather(
         game,
         header,
@@ -165,14 +166,14 @@ fn with_sets(
     moves1: &mut [usize],
     moves2: &mut [usize],
 ) -> Values
-    requires { ⌜ (header ≡ headerOf (now game)) × GameRules (gameOf (now game)) × (counts ≡ countsOf (gameOf (now game))) × OwnNumbers (gameOf (now game)) (now starts) (now own1) (now own2) × PairWeights (gameOf (now game)) (now x) (now y) × (4095 ≤ length (now moves1)) × (4095 ≤ length (now moves2)) ⌝ }
+    requires { ⌜ (header ≡ headerOf (now game)) × GameRules (gameOf (now game)) × (counts ≡ countsOf (gameOf (now game))) × OwnNumbers (gameOf (now game)) (now starts) (now own1) (now own2) × PairWeights (gameOf (now game)) (now x) (now y) × (countLimit ≤ length (now moves1)) × (countLimit ≤ length (now moves2)) ⌝ }
     ensures { λ r. ⌜ Evaluated (gameOf (now (game .entry))) (now (x .entry)) (now (y .entry)) (now (moves1 .entry)) (now (moves2 .entry)) (now (moves1 .exit)) (now (moves2 .exit)) r ⌝ }
 {
-    let mut players = [0usize; 4095];
-    let mut count = [0usize; 4095];
-    let mut start = [0usize; 4095];
-    let mut leads = [0usize; 4095];
-    let mut node = [0usize; 4095];
+    let mut players = [0usize; NodeRecord::NODES];
+    let mut count = [0usize; NodeRecord::NODES];
+    let mut start = [0usize; NodeRecord::NODES];
+    let mut leads = [0usize; NodeRecord::NODES];
+    let mut node = [0usize; NodeRecord::NODES];
     gather::sets::gather(
         game,
         header,
@@ -213,12 +214,12 @@ pub fn evaluate(
     moves1: &mut [usize],
     moves2: &mut [usize],
 ) -> Values
-    requires { ⌜ (header ≡ headerOf (now game)) × GameRules (gameOf (now game)) × (counts ≡ countsOf (gameOf (now game))) × (4095 ≤ length (now x)) × (4095 ≤ length (now y)) × (4095 ≤ length (now moves1)) × (4095 ≤ length (now moves2)) × Small (length (now x)) (now x) × Small (length (now y)) (now y) × (pairFits (gameOf (now game)) (pairByNumber (gameOf (now game)) (entry (now x)) (entry (now y))) ≡ true) ⌝ }
-    ensures { λ r. ⌜ (r ≡ valuesOf (gameOf (now (game .entry))) (pairByNumber (gameOf (now (game .entry))) (entry (now (x .entry))) (entry (now (y .entry))))) × (now (moves1 .exit) ≡ over (ownBestMove (gameOf (now (game .entry))) one (planByNumber (gameOf (now (game .entry))) two (entry (now (y .entry))))) (gameOf (now (game .entry)) .sets) (now (moves1 .entry))) × (now (moves2 .exit) ≡ over (ownBestMove (gameOf (now (game .entry))) two (planByNumber (gameOf (now (game .entry))) one (entry (now (x .entry))))) (gameOf (now (game .entry)) .sets) (now (moves2 .entry))) ⌝ }
+    requires { ⌜ (header ≡ headerOf (now game)) × GameRules (gameOf (now game)) × (counts ≡ countsOf (gameOf (now game))) × (countLimit ≤ length (now x)) × (countLimit ≤ length (now y)) × (countLimit ≤ length (now moves1)) × (countLimit ≤ length (now moves2)) × Small (length (now x)) (now x) × Small (length (now y)) (now y) × (pairFits (gameOf (now game)) (pairByNumber (gameOf (now game)) (item (now x)) (item (now y))) ≡ true) ⌝ }
+    ensures { λ r. ⌜ (r ≡ valuesOf (gameOf (now (game .entry))) (pairByNumber (gameOf (now (game .entry))) (item (now (x .entry))) (item (now (y .entry))))) × (now (moves1 .exit) ≡ over (ownBestMove (gameOf (now (game .entry))) one (planByNumber (gameOf (now (game .entry))) two (item (now (y .entry))))) (gameOf (now (game .entry)) .sets) (now (moves1 .entry))) × (now (moves2 .exit) ≡ over (ownBestMove (gameOf (now (game .entry))) two (planByNumber (gameOf (now (game .entry))) one (item (now (x .entry))))) (gameOf (now (game .entry)) .sets) (now (moves2 .entry))) ⌝ }
 {
-    let mut starts = [0u64; 4095];
-    let mut own1 = [0u64; 4095];
-    let mut own2 = [0u64; 4095];
+    let mut starts = [0u64; NodeRecord::NODES];
+    let mut own1 = [0u64; NodeRecord::NODES];
+    let mut own2 = [0u64; NodeRecord::NODES];
     gather::numbers::own_numbers(game, header, &mut starts, &mut own1, &mut own2);
     with_sets(
         game,

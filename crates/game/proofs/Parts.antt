@@ -12,12 +12,12 @@ use Rattle.checks.specs.declared.Checked.{Checked}
 use Rattle.checks.specs.declared.Checked.the-variants.{Fine, Broken}
 use Rattle.checks.specs.Checked.{checkedOf, numberOf}
 use Rattle.checks.proofs.Chains.{Refuses, Left, begin, stops, passes-all, stops-in}
-use Rattle.records.specs.declared.Header.{Header}
+use Rattle.records.specs.declared.game.Header.{Header}
 use Rattle.game.specs.declared.GameAnswer.the-variants.{Accepted, Refused}
 use Rattle.records.specs.Records.{headerOf}
-use Rattle.game.specs.Answers.{checkedBy, answerFor}
+use Rattle.game.specs.Refusals.{checkedBy, answerFor}
 use Rattle.records.specs.Rooted.{Rooted}
-use Rattle.game.proofs.Outcomes.{refuses}
+use Rattle.game.proofs.Refusals.{refuses}
 use Rattle.records.proofs.Rooted.{rooted}
 
 -- an answer and its number say the same

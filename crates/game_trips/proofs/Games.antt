@@ -10,6 +10,7 @@ use lib.ListN.{length, take}
 use borrow.Author.Tests.{le-leb}
 use Rattle.algebra.proofs.Tests.{cond-yes}
 use Rattle.algebra.proofs.Lists.{length-listTo}
+use Rattle.model.specs.Limits.{countLimit}
 use Rattle.model.specs.Game.{gameOf, one, two}
 use Rattle.model.specs.Writing.{GameFields, gameFields, setCount, nodeCount, playerField, setField, movesField, payoffField, fieldsOf, gameBytes, gameFieldsFit, fieldLists}
 use Rattle.model.specs.Demand2.{IsBytes}
@@ -26,24 +27,24 @@ use Rattle.model.specs.calls.RewriteGame as RewriteGame
 use Rattle.model.specs.calls.RereadGame as RereadGame
 use Rattle.model.proofs.Budget.{game-limits}
 use Rattle.model.proofs.GameTrips.{length-game, game-file-trip, game-fields-trip}
-use Rattle.model.proofs.Fields.{fields-fit-iff}
+use Rattle.model.proofs.Rules.{fields-fit-iff}
 use Rattle.model.proofs.Rows.{taken-iff}
 use Rattle.model.proofs.Checks.{game-named, game-decided}
 use Rattle.model.proofs.calls.WriteGame.{fit-decided}
 use Rattle.model.proofs.calls.RereadGame.{reread-decided}
 use Rattle.checks.proofs.Chains.{Refuses, begin, passes-all, stops-in, refusal-of, call-refuses, same-run}
-use Rattle.columns.specs.Columns.{Room}
-use Rattle.records.proofs.Reading.{few-sets}
-use Rattle.writers.specs.declared.WriteAnswer.{WriteAnswer}
-use Rattle.writers.specs.declared.WriteAnswer.the-variants.{Written, Refused}
-use Rattle.writers.specs.Answers.{writeAnswered}
+use Rattle.columns.specs.Columns.{FieldsFit}
+use Rattle.records.proofs.Widths.{few-sets}
+use Rattle.checks.specs.declared.WriteAnswer.{WriteAnswer}
+use Rattle.checks.specs.declared.WriteAnswer.the-variants.{Written, Refused}
+use Rattle.checks.specs.Answers.{writeAnswered}
 use Rattle.fields.specs.declared.FieldsAnswer.{FieldsAnswer}
 use Rattle.fields.specs.declared.FieldsAnswer.the-variants as Fields
 use Rattle.fields.specs.Answers.{fieldsAnswered}
 use Rattle.checks.proofs.Runs.{Gave, gave, not-gave, front}
 
 -- buffers of 4,095 entries have room for any game's fields
-roomy : (game : List ℕ) (b : GameFields) → Room 4095 4095 b → longEnough (lengths shape (lists (fieldsOf (gameOf game)))) (lengths shape (lists b)) ≡ true
+roomy : (game : List ℕ) (b : GameFields) → FieldsFit countLimit countLimit b → longEnough (lengths shape (lists (fieldsOf (gameOf game)))) (lengths shape (lists b)) ≡ true
 unfolding fieldsOf
 roomy game b L =
     let g = gameOf game in
@@ -73,7 +74,7 @@ roomy game b L =
     )
 
 -- Read, and written again: what reading refuses.
-pub rewrite-refused : (game out : List ℕ) {r : FieldsAnswer} {k m : ℕ} {a0 a1 a2 a3 a4 a5 a6 a7 b0 b1 b2 b3 b4 b5 b6 b7 : List ℕ} {a8 a9 b8 b9 : List ℤ} → outcome (fieldsAnswered r) (lists (fieldLists a0 a1 a2 a3 a4 a5 a6 a7 a8 a9)) ≡ GameFields.gameFields game (lists (fieldLists b0 b1 b2 b3 b4 b5 b6 b7 b8 b9)) → r ≡ Fields.Refused k → m ≡ refusalOf (fieldsAnswered r) → Room 4095 4095 (fieldLists b0 b1 b2 b3 b4 b5 b6 b7 b8 b9) → outcome (refused m) (out, tt) ≡ RewriteGame.rewriteGame game out
+pub rewrite-refused : (game out : List ℕ) {r : FieldsAnswer} {k m : ℕ} {a0 a1 a2 a3 a4 a5 a6 a7 b0 b1 b2 b3 b4 b5 b6 b7 : List ℕ} {a8 a9 b8 b9 : List ℤ} → outcome (fieldsAnswered r) (lists (fieldLists a0 a1 a2 a3 a4 a5 a6 a7 a8 a9)) ≡ GameFields.gameFields game (lists (fieldLists b0 b1 b2 b3 b4 b5 b6 b7 b8 b9)) → r ≡ Fields.Refused k → m ≡ refusalOf (fieldsAnswered r) → FieldsFit countLimit countLimit (fieldLists b0 b1 b2 b3 b4 b5 b6 b7 b8 b9) → outcome (refused m) (out, tt) ≡ RewriteGame.rewriteGame game out
 unfolding GameFields.call RewriteGame.call
 rewrite-refused game out {r} {k} {m} {b0 = b0} {b1 = b1} {b2 = b2} {b3 = b3} {b4 = b4} {b5 = b5} {b6 = b6} {b7 = b7} {b8 = b8} {b9 = b9} e f g L =
     let lent = fieldLists b0 b1 b2 b3 b4 b5 b6 b7 b8 b9 in
@@ -87,8 +88,8 @@ fronts d h n a = gameFields d (take h (a .0)) (take h (a .1 .0)) (take n (a .1 .
 -- What reading gives.
 pub record Read (game : List ℕ) (d h n : ℕ) (after : Buffers shape) : Type 0 where
   pub accepted : refusal gameRows game ≡ 0
-  pub few-sets-read : h ≤ 4095
-  pub few-nodes-read : n ≤ 4095
+  pub few-sets-read : h ≤ countLimit
+  pub few-nodes-read : n ≤ countLimit
   pub fields : fronts d h n after ≡ fieldsOf (gameOf game)
 
 pub read-given : (game : List ℕ) (b : Buffers shape) {after : Buffers shape} {r : FieldsAnswer} {d h n : ℕ} → outcome (fieldsAnswered r) after ≡ GameFields.gameFields game b → r ≡ Fields.Given n h d → Read game d h n after
@@ -131,7 +132,7 @@ rewrite-given game out bytes R hh nn e =
     e ∙ rw (hh, nn, R .fields) (same-run WriteGame.call RewriteGame.call tt game-named t game (out, tt) (taken t fit ∙ sym (R .accepted)) (λ e. (ap length same, rw same)))
 
 -- as many entries as are read stand in each buffer
-pub fronts-stand : {game : List ℕ} {d h n : ℕ} {after : Buffers shape} → Read game d h n after → {h' n' : ℕ} → h' ≡ h → n' ≡ n → {l0 l1 l2 l3 l4 l5 l6 l7 l8 l9 : ℕ} → l0 ≡ 4095 → l1 ≡ 4095 → l2 ≡ 4095 → l3 ≡ 4095 → l4 ≡ 4095 → l5 ≡ 4095 → l6 ≡ 4095 → l7 ≡ 4095 → l8 ≡ 4095 → l9 ≡ 4095 → (h' ≤ l0) × (h' ≤ l1) × (n' ≤ l2) × (n' ≤ l3) × (n' ≤ l4) × (n' ≤ l5) × (n' ≤ l6) × (n' ≤ l7) × (n' ≤ l8) × (n' ≤ l9)
+pub fronts-stand : {game : List ℕ} {d h n : ℕ} {after : Buffers shape} → Read game d h n after → {h' n' : ℕ} → h' ≡ h → n' ≡ n → {l0 l1 l2 l3 l4 l5 l6 l7 l8 l9 : ℕ} → l0 ≡ countLimit → l1 ≡ countLimit → l2 ≡ countLimit → l3 ≡ countLimit → l4 ≡ countLimit → l5 ≡ countLimit → l6 ≡ countLimit → l7 ≡ countLimit → l8 ≡ countLimit → l9 ≡ countLimit → (h' ≤ l0) × (h' ≤ l1) × (n' ≤ l2) × (n' ≤ l3) × (n' ≤ l4) × (n' ≤ l5) × (n' ≤ l6) × (n' ≤ l7) × (n' ≤ l8) × (n' ≤ l9)
 fronts-stand R hh nn e0 e1 e2 e3 e4 e5 e6 e7 e8 e9 =
     let h = R .few-sets-read in
     let n = R .few-nodes-read in

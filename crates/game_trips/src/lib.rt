@@ -10,9 +10,11 @@ ghost use Rattle.model.specs.calls.WriteGame.{writeGame};
 ghost use Rattle.model.specs.calls.RewriteGame.{rewriteGame};
 ghost use Rattle.model.specs.calls.RereadGame.{rereadGame};
 ghost use Rattle.fields.specs.Answers.{fieldsAnswered};
-ghost use Rattle.writers.specs.Answers.{writeAnswered};
+ghost use Rattle.checks.specs.Answers.{writeAnswered};
+use checks::WriteAnswer;
 use fields::FieldsAnswer;
-use writers::WriteAnswer;
+use records::Header;
+use records::NodeRecord;
 
 // Writes the first `h` entries of the sets' lists and the first `n` of the nodes'.
 fn write_fronts(
@@ -54,16 +56,16 @@ fn write_fronts(
 pub fn rewrite_game(game: &[u8], out: &mut [u8]) -> WriteAnswer
     ensures { λ r. ⌜ outcome (writeAnswered r) (now (out .exit), tt) ≡ rewriteGame (now (game .entry)) (now (out .entry)) ⌝ }
 {
-    let mut set_players = [0u64; 4095];
-    let mut set_moves = [0u64; 4095];
-    let mut kinds = [0u64; 4095];
-    let mut parents = [0u64; 4095];
-    let mut moves = [0u64; 4095];
-    let mut weights = [0u64; 4095];
-    let mut node_sets = [0u64; 4095];
-    let mut chance_moves = [0u64; 4095];
-    let mut payoffs1 = [0i64; 4095];
-    let mut payoffs2 = [0i64; 4095];
+    let mut set_players = [0u64; NodeRecord::NODES];
+    let mut set_moves = [0u64; NodeRecord::NODES];
+    let mut kinds = [0u64; NodeRecord::NODES];
+    let mut parents = [0u64; NodeRecord::NODES];
+    let mut moves = [0u64; NodeRecord::NODES];
+    let mut weights = [0u64; NodeRecord::NODES];
+    let mut node_sets = [0u64; NodeRecord::NODES];
+    let mut chance_moves = [0u64; NodeRecord::NODES];
+    let mut payoffs1 = [0i64; NodeRecord::NODES];
+    let mut payoffs2 = [0i64; NodeRecord::NODES];
     let read = fields::game_fields(
         game,
         &mut set_players,
@@ -105,7 +107,7 @@ pub fn rewrite_game(game: &[u8], out: &mut [u8]) -> WriteAnswer
     )
 }
 
-// Writes the fields of a game and reads them back: the counts and the very lists that are given. No game file is longer than 36,860 bytes.
+// Writes the fields of a game and reads them back: the counts and the very lists that are given.
 pub fn reread_game(
     root_weight: u64,
     set_players: &[u64],
@@ -131,7 +133,7 @@ pub fn reread_game(
 ) -> FieldsAnswer
     ensures { λ r. ⌜ outcome (fieldsAnswered r) (lists (fieldLists (now («set_players_out» .exit)) (now («set_moves_out» .exit)) (now («kinds_out» .exit)) (now («parents_out» .exit)) (now («moves_out» .exit)) (now («weights_out» .exit)) (now («node_sets_out» .exit)) (now («chance_moves_out» .exit)) (now («payoffs1_out» .exit)) (now («payoffs2_out» .exit)))) ≡ rereadGame (gameFields «root_weight» (now («set_players» .entry)) (now («set_moves» .entry)) (now (kinds .entry)) (now (parents .entry)) (now (moves .entry)) (now (weights .entry)) (now («node_sets» .entry)) (now («chance_moves» .entry)) (now (payoffs1 .entry)) (now (payoffs2 .entry))) (lists (fieldLists (now («set_players_out» .entry)) (now («set_moves_out» .entry)) (now («kinds_out» .entry)) (now («parents_out» .entry)) (now («moves_out» .entry)) (now («weights_out» .entry)) (now («node_sets_out» .entry)) (now («chance_moves_out» .entry)) (now («payoffs1_out» .entry)) (now («payoffs2_out» .entry)))) ⌝ }
 {
-    let mut file = [0u8; 36860];
+    let mut file = [0u8; Header::LONGEST_FILE];
     let written = writers::game::write(
         root_weight,
         set_players,
@@ -147,7 +149,7 @@ pub fn reread_game(
         &mut file,
     );
     let WriteAnswer::Written(size) = written else {
-        return FieldsAnswer::Refused(writers::refusal(written));
+        return FieldsAnswer::Refused(checks::refusal(written));
     };
     fields::game_fields(
         &file[..size],

@@ -5,18 +5,19 @@ use mathlib.Core.List.{List}
 use native.Mathlib.Omega.{arith}
 use lib.ListN.{length}
 use lib.IntN.{ℤ}
+use Rattle.algebra.specs.Arrays.{item}
+use Rattle.model.specs.Limits.{countLimit}
 use Rattle.model.specs.Game.{Game, Player, one, two, other}
 use Rattle.model.specs.Sequences.{sequenceCount}
 use Rattle.model.specs.Table.{ownNumber}
 use Rattle.model.specs.Rules.{GameRules}
-use Rattle.model.specs.Writing.{entry}
 use Rattle.model.proofs.Numbers.{own-number-below}
 use Rattle.gather.specs.Leaves.{leavesOf, leafOf, Column, Gathered, PlayerLeaves}
-use Rattle.gather.proofs.Gathering.{all-few, Gathering, gathered-all}
+use Rattle.gather.proofs.Gathered.{all-few, Gathering, gathered-all}
 use Rattle.gather.proofs.LeafSums.{leaf-in, column-is}
 
 -- a slice that every leaf was placed in is a column
-pub column-all : (g : Game) {A : Type 0} (f : ℕ → A) → g .nodes ≤ 4095 → (n : ℕ) (before after : List A) → Gathering g f n before after → n ≡ g .nodes → 4095 ≤ length before → Column g f after
+pub column-all : (g : Game) {A : Type 0} (f : ℕ → A) → g .nodes ≤ countLimit → (n : ℕ) (before after : List A) → Gathering g f n before after → n ≡ g .nodes → countLimit ≤ length before → Column g f after
 column-all g f few n before after h e b = column-is g f before after (gathered-all g f n before after h e) (omega (arith, all-few g))
 
 -- what is p's, of what player 1 and player 2 have
@@ -30,5 +31,5 @@ player-leaves g one L = record { counted = L .counted; own-is = L .first-is; opp
 player-leaves g two L = record { counted = L .counted; own-is = L .second-is; opponent-is = L .first-is; chance-is = L .chance-is; payoffs-is = L .payoffs2-is }
 
 -- a column of p's sequence numbers
-pub column-below : (g : Game) → GameRules g → (p : Player) {l : List ℕ} → Column g (ownNumber g p) l → (k : ℕ) → k < length (leavesOf g) → entry l k < sequenceCount g p
+pub column-below : (g : Game) → GameRules g → (p : Player) {l : List ℕ} → Column g (ownNumber g p) l → (k : ℕ) → k < length (leavesOf g) → item l k < sequenceCount g p
 column-below g R p C k v = rw (C .at 0 k v) (own-number-below g R p (leafOf g k) (leaf-in g k v))

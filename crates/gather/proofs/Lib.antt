@@ -1,4 +1,4 @@
-pub mod Gathering
+pub mod Gathered
 pub mod LeafColumns
 pub mod LeafSums
 pub mod SetColumns

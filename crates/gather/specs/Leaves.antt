@@ -5,10 +5,10 @@ use mathlib.Core.Bool.{cond}
 use mathlib.Core.List.{List, [], _∷_}
 use lib.ListN.{length, getD}
 use lib.IntN.{ℤ}
+use Rattle.algebra.specs.Arrays.{item}
 use Rattle.algebra.specs.Bounded.{joinTo}
 use Rattle.model.specs.Game.{Game, Player, one, two, other, isLeaf}
 use Rattle.model.specs.Table.{ownNumber}
-use Rattle.model.specs.Writing.{entry}
 
 module _ (g : Game) where
   -- node n alone, where it is a leaf
@@ -25,7 +25,7 @@ module _ (g : Game) where
 
   -- the leaf at place k
   unfoldable pub leafOf : (k : ℕ) → ℕ
-  leafOf k = entry leavesOf k
+  leafOf k = item leavesOf k
 
   -- A slice holds f of each leaf, by place.
   pub record Column {A : Type 0} (f : ℕ → A) (l : List A) : Type 0 where

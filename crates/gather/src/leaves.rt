@@ -1,9 +1,10 @@
 // The leaves of a game in number slices, one place a leaf.
 ghost use mathlib.Core.Path.{_≡_};
 ghost use mathlib.Core.List.{map};
-ghost use Prim.Native.Nat.{_+_, _≤_, _<_};
+ghost use Prim.Native.Nat.{_+_, _≤_, _<_, _^_};
 ghost use lib.ListN.{length, set};
 ghost use Rattle.algebra.specs.Arrays.{placed, Holds};
+ghost use Rattle.model.specs.Limits.{countLimit};
 ghost use Rattle.model.specs.Game.{gameOf, one, two, nodeAt};
 ghost use Rattle.model.specs.Table.{ownNumber};
 ghost use Rattle.records.specs.Records.{headerOf};
@@ -50,7 +51,7 @@ fn add_node(
     payoffs1: &mut [i16],
     payoffs2: &mut [i16],
 ) -> usize
-    requires { ⌜ (records ≡ nodeAt (now game) 0) × (n < 4096) × (at < 4096) × (own1 ≡ ownNumber (gameOf (now game)) one n) × (own2 ≡ ownNumber (gameOf (now game)) two n) × (at < length (now first)) × (at < length (now second)) × (at < length (now chance)) × (at < length (now payoffs1)) × (at < length (now payoffs2)) ⌝ }
+    requires { ⌜ (records ≡ nodeAt (now game) 0) × (n < 2 ^ 12) × (at < 2 ^ 12) × (own1 ≡ ownNumber (gameOf (now game)) one n) × (own2 ≡ ownNumber (gameOf (now game)) two n) × (at < length (now first)) × (at < length (now second)) × (at < length (now chance)) × (at < length (now payoffs1)) × (at < length (now payoffs2)) ⌝ }
     ensures { λ r. ⌜ (r ≡ at + length (leafAt (gameOf (now (game .entry))) n)) × (now (first .exit) ≡ placed at (map (ownNumber (gameOf (now (game .entry))) one) (leafAt (gameOf (now (game .entry))) n)) (now (first .entry))) × (now (second .exit) ≡ placed at (map (ownNumber (gameOf (now (game .entry))) two) (leafAt (gameOf (now (game .entry))) n)) (now (second .entry))) × (now (chance .exit) ≡ placed at (map (gameOf (now (game .entry)) .weight) (leafAt (gameOf (now (game .entry))) n)) (now (chance .entry))) × (now (payoffs1 .exit) ≡ placed at (map (gameOf (now (game .entry)) .payoff one) (leafAt (gameOf (now (game .entry))) n)) (now (payoffs1 .entry))) × (now (payoffs2 .exit) ≡ placed at (map (gameOf (now (game .entry)) .payoff two) (leafAt (gameOf (now (game .entry))) n)) (now (payoffs2 .entry))) ⌝ }
 {
     let node = NodeRecord::read(game, records, n);
@@ -84,7 +85,7 @@ pub fn gather(
     payoffs1: &mut [i16],
     payoffs2: &mut [i16],
 ) -> usize
-    requires { ⌜ (header ≡ headerOf (now game)) × Holds (ownNumber (gameOf (now game)) one) (gameOf (now game) .nodes) (now own1) × Holds (ownNumber (gameOf (now game)) two) (gameOf (now game) .nodes) (now own2) × (4095 ≤ length (now first)) × (4095 ≤ length (now second)) × (4095 ≤ length (now chance)) × (4095 ≤ length (now payoffs1)) × (4095 ≤ length (now payoffs2)) ⌝ }
+    requires { ⌜ (header ≡ headerOf (now game)) × Holds (ownNumber (gameOf (now game)) one) (gameOf (now game) .nodes) (now own1) × Holds (ownNumber (gameOf (now game)) two) (gameOf (now game) .nodes) (now own2) × (countLimit ≤ length (now first)) × (countLimit ≤ length (now second)) × (countLimit ≤ length (now chance)) × (countLimit ≤ length (now payoffs1)) × (countLimit ≤ length (now payoffs2)) ⌝ }
     ensures { λ r. ⌜ Gathered (gameOf (now (game .entry))) r (now (first .exit)) (now (second .exit)) (now (chance .exit)) (now (payoffs1 .exit)) (now (payoffs2 .exit)) ⌝ }
 {
     let records = header.records;

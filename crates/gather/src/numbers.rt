@@ -2,6 +2,7 @@
 ghost use mathlib.Core.Path.{_≡_};
 ghost use Prim.Native.Nat.{_≤_};
 ghost use lib.ListN.{length};
+ghost use Rattle.model.specs.Limits.{countLimit};
 ghost use Rattle.model.specs.Game.{gameOf, one, two};
 ghost use Rattle.model.specs.Sequences.{sequenceCount};
 ghost use Rattle.model.specs.Rules.{GameRules};
@@ -19,7 +20,7 @@ pub fn own_numbers(
     own1: &mut [u64],
     own2: &mut [u64],
 ) -> SequenceCounts
-    requires { ⌜ (header ≡ headerOf (now game)) × GameRules (gameOf (now game)) × (4095 ≤ length (now starts)) × (4095 ≤ length (now own1)) × (4095 ≤ length (now own2)) ⌝ }
+    requires { ⌜ (header ≡ headerOf (now game)) × GameRules (gameOf (now game)) × (countLimit ≤ length (now starts)) × (countLimit ≤ length (now own1)) × (countLimit ≤ length (now own2)) ⌝ }
     ensures { λ r. ⌜ (r .first ≡ sequenceCount (gameOf (now (game .entry))) one) × (r .second ≡ sequenceCount (gameOf (now (game .entry))) two) × OwnNumbers (gameOf (now (game .entry))) (now (starts .exit)) (now (own1 .exit)) (now (own2 .exit)) ⌝ }
 {
     let records = header.records;

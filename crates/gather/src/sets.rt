@@ -2,14 +2,16 @@
 ghost use mathlib.Core.Path.{_≡_};
 ghost use Prim.Native.Nat.{ℕ, _≤_, _<_};
 ghost use lib.ListN.{length};
-ghost use Rattle.algebra.specs.Arrays.{over};
+ghost use Rattle.algebra.specs.Arrays.{item, over};
+ghost use Rattle.model.specs.Limits.{countLimit};
 ghost use Rattle.model.specs.Game.{gameOf};
-ghost use Rattle.model.specs.Writing.{entry, playerField};
+ghost use Rattle.model.specs.Writing.{playerField};
 ghost use Rattle.model.specs.Rules.{GameRules};
 ghost use Rattle.records.specs.Records.{headerOf};
 ghost use Rattle.gather.specs.Numbers.{OwnNumbers};
 ghost use Rattle.gather.specs.Sets.{leadStored, ownLead, SetsGathered};
 use records::Header;
+use records::NodeRecord;
 use records::SetEntry;
 
 // The player of each set, 0 or 1, and how many moves it has.
@@ -29,7 +31,7 @@ fn entries(game: &[u8], sets: usize, players: &mut [usize], counts: &mut [usize]
 // Numbers as indices.
 fn indices(numbers: &[u64], count: usize, out: &mut [usize])
     requires { ⌜ (count ≤ length (now numbers)) × (count ≤ length (now out)) ⌝ }
-    ensures { λ _. ⌜ now (out .exit) ≡ over (entry (now (numbers .entry))) count (now (out .entry)) ⌝ }
+    ensures { λ _. ⌜ now (out .exit) ≡ over (item (now (numbers .entry))) count (now (out .entry)) ⌝ }
 {
     let mut i = 0;
     while i < count {
@@ -40,7 +42,7 @@ fn indices(numbers: &[u64], count: usize, out: &mut [usize])
 
 // The number of the sequence that leads to set `h`: that of its player's own sequence to its first node.
 fn lead_of(players: &[usize], node: &[usize], own1: &[u64], own2: &[u64], h: usize) -> usize
-    requires { ⌜ (h < length (now players)) × (h < length (now node)) × (entry (now node) h < length (now own1)) × (entry (now node) h < length (now own2)) ⌝ }
+    requires { ⌜ (h < length (now players)) × (h < length (now node)) × (item (now node) h < length (now own1)) × (item (now node) h < length (now own2)) ⌝ }
     ensures { λ r. ⌜ r ≡ leadStored (now (players .entry)) (now (node .entry)) (now (own1 .entry)) (now (own2 .entry)) h ⌝ }
 {
     let n = node[h];
@@ -60,7 +62,7 @@ fn leads(
     sets: usize,
     out: &mut [usize],
 )
-    requires { ⌜ (sets ≤ length (now players)) × (sets ≤ length (now node)) × (sets ≤ length (now out)) × ((h : ℕ) → h < sets → (entry (now node) h < length (now own1)) × (entry (now node) h < length (now own2))) ⌝ }
+    requires { ⌜ (sets ≤ length (now players)) × (sets ≤ length (now node)) × (sets ≤ length (now out)) × ((h : ℕ) → h < sets → (item (now node) h < length (now own1)) × (item (now node) h < length (now own2))) ⌝ }
     ensures { λ _. ⌜ now (out .exit) ≡ over (leadStored (now (players .entry)) (now (node .entry)) (now (own1 .entry)) (now (own2 .entry))) sets (now (out .entry)) ⌝ }
 {
     let mut h = 0;
@@ -83,13 +85,13 @@ pub fn gather(
     lead: &mut [usize],
     node: &mut [usize],
 )
-    requires { ⌜ (header ≡ headerOf (now game)) × GameRules (gameOf (now game)) × OwnNumbers (gameOf (now game)) (now starts) (now own1) (now own2) × (4095 ≤ length (now players)) × (4095 ≤ length (now count)) × (4095 ≤ length (now start)) × (4095 ≤ length (now lead)) × (4095 ≤ length (now node)) ⌝ }
+    requires { ⌜ (header ≡ headerOf (now game)) × GameRules (gameOf (now game)) × OwnNumbers (gameOf (now game)) (now starts) (now own1) (now own2) × (countLimit ≤ length (now players)) × (countLimit ≤ length (now count)) × (countLimit ≤ length (now start)) × (countLimit ≤ length (now lead)) × (countLimit ≤ length (now node)) ⌝ }
     ensures { λ _. ⌜ SetsGathered (gameOf (now (game .entry))) (now (players .exit)) (now (count .exit)) (now (start .exit)) (now (lead .exit)) (now (node .exit)) ⌝ }
 {
     let records = header.records;
     let nodes = header.nodes;
     let sets = header.sets;
-    let mut first = [0u64; 4095];
+    let mut first = [0u64; NodeRecord::NODES];
     sequences::sets::first_nodes(game, records, nodes, sets, &mut first);
     entries(game, sets, players, count);
     indices(starts, sets, start);

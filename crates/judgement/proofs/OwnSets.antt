@@ -4,9 +4,9 @@ use mathlib.Core.Path.{_≡_}
 use mathlib.Core.List.{List, map}
 use lib.ListN.{length, set}
 use Rattle.algebra.specs.Arrays.{placed}
-use Rattle.algebra.proofs.Gathering.{next-yes, next-no, column-yes, column-no}
+use Rattle.algebra.proofs.Filters.{next-yes, next-no, column-yes, column-no}
 use Rattle.model.specs.Game.{gameOf, playerOf, owns}
-use Rattle.records.specs.declared.SetEntry.{SetEntry}
+use Rattle.records.specs.declared.game.SetEntry.{SetEntry}
 use Rattle.records.specs.Records.{SetRead}
 use Rattle.sequences.proofs.OwnSets.{own-set, not-own-set}
 use Rattle.judgement.specs.Strategy.{ownSetAt}

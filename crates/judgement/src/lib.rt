@@ -7,7 +7,7 @@ pub mod strategy;
 // Nobody can gain; or the player, 1 or 2, and his gain over D0 × D1 × D2.
 pub enum Verdict {
     Equilibrium,
-    Deviation { player: u64, gain: i64 },
+    Deviation { player_number: u64, gain: i64 },
 }
 
 // A player's best value less his value, over D0 × D1 × D2: `best` is over D0 × the other's D, `denominator` is his own D.
@@ -27,14 +27,14 @@ pub fn judge(value1: i64, value2: i64, best1: i64, best2: i64, d1: u64, d2: u64)
     let gain1 = gain(d1, best1, value1);
     if 0 < gain1 {
         return Verdict::Deviation {
-            player: 1,
+            player_number: 1,
             gain: gain1,
         };
     }
     let gain2 = gain(d2, best2, value2);
     if 0 < gain2 {
         return Verdict::Deviation {
-            player: 2,
+            player_number: 2,
             gain: gain2,
         };
     }

@@ -1,2 +1,2 @@
-pub mod Asking
-pub mod Reading
+pub mod Answers
+pub mod Asked

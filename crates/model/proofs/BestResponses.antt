@@ -11,9 +11,9 @@ use lib.IntN.{ℤ, pos, _*ℤ_, zero-*ℤ}
 use lib.Signed.{_≤ℤ_, _<ℤ_, leZ, leZ-yes, ltZ, ltZ-yes, ltZ-no, ≤ℤ-refl}
 use Rattle.algebra.specs.Bounded.{joinTo}
 use Rattle.algebra.proofs.Tests.{dec, cond-yes, cond-no}
-use Rattle.algebra.proofs.Searches.{firstTo-found, firstTo-before, maxUpTo-above, maxUpTo-met}
+use Rattle.algebra.proofs.Searches.{firstTo-found, firstTo-before, maxThrough-above, maxThrough-met}
 use Rattle.algebra.proofs.Integers.{≤ℤ-antisym, scale-mono, scale-one}
-use Rattle.algebra.proofs.Counts.{only}
+use Rattle.algebra.proofs.Totals.{only}
 use Rattle.algebra.proofs.Lists.{joinTo-cong, map-joinTo}
 use Rattle.model.specs.Game.{Game, Player, owns}
 use Rattle.model.specs.Sequences.{Move, extended, leading}
@@ -91,16 +91,16 @@ module _ (g : Game) (p : Player) (y : RealizationPlan) where
   unfolding bestMove
   best-found h some =
       let f : ℕ → ℤ = λ m. worth g p y (extended (leading g h) h m) in
-      let top = maxUpTo-met (pred (g .setMoves h)) f in
+      let top = maxThrough-met (pred (g .setMoves h)) f in
       let met : setWorth g p y h ≡ f (top .0) = worth-set g p y h ∙ top .2 in
       let found = firstTo-found (g .setMoves h) (λ m. leZ (setWorth g p y h) (f m)) (top .0) (omega arith) (subst (λ (z : ℤ). T (leZ (setWorth g p y h) z)) met (≤ℤ-refl (setWorth g p y h) .le)) in
-      (found .1, ≤ℤ-antisym _ _ (subst (λ (z : ℤ). f (bestMove g p y h) ≤ℤ z) (sym (worth-set g p y h)) (maxUpTo-above (pred (g .setMoves h)) f (bestMove g p y h) (omega (arith, found .1)))) (leZ-yes (found .0)))
+      (found .1, ≤ℤ-antisym _ _ (subst (λ (z : ℤ). f (bestMove g p y h) ≤ℤ z) (sym (worth-set g p y h)) (maxThrough-above (pred (g .setMoves h)) f (bestMove g p y h) (omega (arith, found .1)))) (leZ-yes (found .0)))
 
   -- no move is worth more
   pub best-move : (h k : ℕ) → 0 < g .setMoves h → k < g .setMoves h → worth g p y (extended (leading g h) h k) ≤ℤ worth g p y (extended (leading g h) h (bestMove g p y h))
   best-move h k some l =
       subst (λ (z : ℤ). worth g p y (extended (leading g h) h k) ≤ℤ z) (sym (best-found h some .1 ∙ worth-set g p y h))
-      (maxUpTo-above (pred (g .setMoves h)) (λ m. worth g p y (extended (leading g h) h m)) k (omega arith))
+      (maxThrough-above (pred (g .setMoves h)) (λ m. worth g p y (extended (leading g h) h m)) k (omega arith))
 
   -- and every lower-numbered one is worth less
   pub lower-move : (h k : ℕ) → 0 < g .setMoves h → k < bestMove g p y h → worth g p y (extended (leading g h) h k) <ℤ worth g p y (extended (leading g h) h (bestMove g p y h))
@@ -151,4 +151,4 @@ module _ (g : Game) (p : Player) (y : RealizationPlan) where
     -- the best response earns exactly it
     pub response-attains : pureEarnings g p y (listed (bestResponse g p y)) ≡ bestValue g p y
     unfolding pureEarnings bestValue
-    response-attains = ap (λ (z : ℤ). record { count = z; base = againstBase g y }) response-earns
+    response-attains = ap (λ (z : ℤ). record { numerator = z; denominator = againstBase g y }) response-earns

@@ -9,9 +9,9 @@ use native.Mathlib.Nat as NatL
 use lib.IntN.{ℤ, pos, _+ℤ_, _*ℤ_, natAbs}
 use mir.Syntax.{w64}
 use mir.Val.{SFits}
-use Rattle.algebra.specs.Bounded.{countTo, sumWhere}
+use Rattle.algebra.specs.Bounded.{totalTo, sumWhere}
 use Rattle.algebra.proofs.Ranges.{abs-sub, abs-scale, abs-where, sfits-abs}
-use Rattle.algebra.proofs.Counts.{only, only-le, only-most, only-scale, count-le, count-less, count-bound, count-scale}
+use Rattle.algebra.proofs.Totals.{only, only-le, only-most, only-scale, count-le, count-less, count-bound, count-scale}
 use Rattle.model.specs.Bits.{field}
 use Rattle.model.specs.Game.{Game, gameOf, Player, one, two, other, isLeaf, payoffAt, nodeAt}
 use Rattle.model.specs.Sequences.{Sequence, same, ownSequence}
@@ -20,7 +20,7 @@ use Rattle.model.specs.Table.{standsAt, weightedPayoff}
 use Rattle.model.specs.Earnings.{PureStrategy, listed, consistent, IsPure, leafTerm, pureCount, againstBase, valueBase, valueTerm, valueCount}
 use Rattle.model.specs.BestResponse.{leadsTo, greatestWorth, leavesWorth, worthIn, bestCount, bestResponse}
 use Rattle.model.specs.Verdict.{scaledBest, gain}
-use Rattle.model.specs.Budget.{weightLimit}
+use Rattle.model.specs.Limits.{weightLimit, countLimit}
 use Rattle.model.specs.Rules.{GameRules}
 use Rattle.model.proofs.Bits.{field-fits, signed-abs}
 use Rattle.model.proofs.Strategies.{purePlan, pure-fits, pure-prefix}
@@ -31,9 +31,9 @@ use Rattle.model.proofs.WorthBounds.{leafSize, leafSizes, partial-bound
 
 -- what the widths of a game's fields allow
 pub record GameLimits (g : Game) : Type 0 where
-  pub nodes : g .nodes ≤ 4095
-  pub root : g .rootWeight ≤ 4095
-  pub weights : (n : ℕ) → g .weight n ≤ 4095
+  pub nodes : g .nodes ≤ countLimit
+  pub root : g .rootWeight ≤ countLimit
+  pub weights : (n : ℕ) → g .weight n ≤ countLimit
   pub payoffs : (p : Player) (n : ℕ) → natAbs (g .payoff p n) ≤ 32768
 
 -- a denominator within what contracts allow
@@ -115,7 +115,7 @@ module _ (g : Game) (R : GameRules g) (L : GameLimits g) (p : Player) (y : Reali
         let a = abs-where k (isLeaf g) f in
         let c = count-less N k (λ n. only (isLeaf g n) (natAbs (f n))) l in
         let d = count-le N (λ n. only (isLeaf g n) (natAbs (f n))) (λ n. 32768 * only (isLeaf g n) (W n)) (λ n v. term-bound n) in
-        let e : countTo N (λ n. 32768 * only (isLeaf g n) (W n)) ≡ 32768 * (x .denominator * againstBase g y) =
+        let e : totalTo N (λ n. 32768 * only (isLeaf g n) (W n)) ≡ 32768 * (x .denominator * againstBase g y) =
         sym (count-scale N 32768 (λ n. only (isLeaf g n) (W n))) ∙ ap (λ (k : ℕ). 32768 * k) (flow g R (paired p x y) (paired-fits g p x y F G) ∙ root-is) in
         omega (arith, a, c, d, e)
 
@@ -134,26 +134,26 @@ module _ (g : Game) (R : GameRules g) (L : GameLimits g) (p : Player) (y : Reali
       (pure-bound (listed (bestResponse g p y)) (response-pure g p y R) (g .nodes) (omega arith))
 
 -- all leaves together count at most this much
-leaf-sizes-bound : (g : Game) → GameLimits g → (p : Player) (y : RealizationPlan) → ((n : ℕ) → n < g .nodes → weightAt g y (other p) n ≤ weightLimit) → leafSizes g p y ≤ 4095 * (4095 * weightLimit * 32768)
+leaf-sizes-bound : (g : Game) → GameLimits g → (p : Player) (y : RealizationPlan) → ((n : ℕ) → n < g .nodes → weightAt g y (other p) n ≤ weightLimit) → leafSizes g p y ≤ countLimit * (countLimit * weightLimit * 32768)
 unfolding leafSizes leafSize leafTerm weightAt
 leaf-sizes-bound g L p y small =
-    let B = 4095 * weightLimit * 32768 in
+    let B = countLimit * weightLimit * 32768 in
     omega (arith, count-bound (g .nodes) B (leafSize g p y) (λ n l. one-leaf n l (isLeaf g n)), NatL.mul-le-mul-right B (L .nodes))
   where
-    one-leaf : (n : ℕ) → n < g .nodes → (b : Bool) → only b (natAbs (pos (g .weight n * sequenceWeight y (ownSequence g (other p) n)) *ℤ g .payoff p n)) ≤ 4095 * weightLimit * 32768
+    one-leaf : (n : ℕ) → n < g .nodes → (b : Bool) → only b (natAbs (pos (g .weight n * sequenceWeight y (ownSequence g (other p) n)) *ℤ g .payoff p n)) ≤ countLimit * weightLimit * 32768
     one-leaf n l true =
         omega (arith, abs-scale (g .weight n * sequenceWeight y (ownSequence g (other p) n)) (g .payoff p n), NatL.mul-le-mul (NatL.mul-le-mul (L .weights n) (small n l)) (L .payoffs p n))
     one-leaf n l false = omega arith
 
 -- every prefix of an entry of the payoff table
-table-bound : (g : Game) → GameLimits g → (p : Player) (s t k : ℕ) → k ≤ g .nodes → natAbs (sumWhere k (standsAt g s t) (weightedPayoff g p)) ≤ 4095 * (4095 * 32768)
+table-bound : (g : Game) → GameLimits g → (p : Player) (s t k : ℕ) → k ≤ g .nodes → natAbs (sumWhere k (standsAt g s t) (weightedPayoff g p)) ≤ countLimit * (countLimit * 32768)
 unfolding weightedPayoff
 table-bound g L p s t k l =
-    let B = 4095 * 32768 in
+    let B = countLimit * 32768 in
     let f : ℕ → ℕ = λ n. only (standsAt g s t n) (natAbs (weightedPayoff g p n)) in
     let a = abs-where k (standsAt g s t) (weightedPayoff g p) in
     let c = count-bound k B f (λ n v. omega (arith, only-most (standsAt g s t n) (natAbs (weightedPayoff g p n)), abs-scale (g .weight n) (g .payoff p n), NatL.mul-le-mul (L .weights n) (L .payoffs p n))) in
-    let few : k ≤ 4095 = omega (arith, L .nodes) in
+    let few : k ≤ countLimit = omega (arith, L .nodes) in
     omega (arith, a, c, NatL.mul-le-mul-right B few)
 
 -- so each stays within an i64
@@ -183,12 +183,12 @@ pub record Budget (g : Game) (q : PlanPair) : Type 0 where
 
 module _ (g : Game) (R : GameRules g) (L : GameLimits g) (q : PlanPair) (F : (p : Player) → Fits g p (q p)) (M : (p : Player) → PlanLimits (q p)) where
   -- D0 × D1 × D2
-  base-bound : valueBase g q ≤ 4095 * (weightLimit * weightLimit)
+  base-bound : valueBase g q ≤ countLimit * (weightLimit * weightLimit)
   unfolding valueBase
   base-bound = NatL.mul-le-mul (L .root) (NatL.mul-le-mul (M one .denominator) (M two .denominator))
 
   -- D0 × the other's D
-  against-bound : (p : Player) → againstBase g (q (other p)) ≤ 4095 * weightLimit
+  against-bound : (p : Player) → againstBase g (q (other p)) ≤ countLimit * weightLimit
   unfolding againstBase
   against-bound p = NatL.mul-le-mul (L .root) (M (other p) .denominator)
 

@@ -33,7 +33,7 @@ use Rattle.model.specs.Starred as Starred
 use Rattle.model.specs.Starred.{study, planF}
 use Rattle.model.proofs.Bits.{numeral-fits, length-packed, packed-at}
 use Rattle.model.proofs.Spelling.{BitList}
-use Rattle.model.proofs.Fields.{fields-fit-iff, plan-fields-fit-iff}
+use Rattle.model.proofs.Rules.{fields-fit-iff, plan-fields-fit-iff}
 use Rattle.model.proofs.Checks.{game-file-iff, plan-file-iff}
 use Rattle.model.proofs.GameTrips.{gameBits, game-is, bitlist-game, game-file-trip}
 use Rattle.model.proofs.PlanTrips.{planBits, plan-is, bitlist-plan, plan-file-trip}

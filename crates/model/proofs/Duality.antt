@@ -7,7 +7,7 @@ use native.Mathlib.Omega.{arith}
 use lib.Dec.{T}
 use lib.IntN.{ℤ, pos, _+ℤ_, _*ℤ_}
 use lib.Signed.{_≤ℤ_, ≤ℤ-refl}
-use Rattle.algebra.proofs.Searches.{maxUpTo-above}
+use Rattle.algebra.proofs.Searches.{maxThrough-above}
 use Rattle.model.specs.Game.{Game, Player, owns}
 use Rattle.model.specs.Sequences.{Sequence, extended, leading}
 use Rattle.model.specs.Plan.{RealizationPlan, Fits}
@@ -26,7 +26,7 @@ worths g p y = record { start = bestCount g p y; set = setWorth g p y }
 pub move-at-most : (g : Game) (p : Player) (y : RealizationPlan) (h m : ℕ) → m < g .setMoves h → worth g p y (extended (leading g h) h m) ≤ℤ setWorth g p y h
 move-at-most g p y h m l =
     subst (λ (z : ℤ). worth g p y (extended (leading g h) h m) ≤ℤ z) (sym (worth-set g p y h))
-    (maxUpTo-above (pred (g .setMoves h)) (λ m. worth g p y (extended (leading g h) h m)) m (omega arith))
+    (maxThrough-above (pred (g .setMoves h)) (λ m. worth g p y (extended (leading g h) h m)) m (omega arith))
 
 module _ (g : Game) (R : GameRules g) (p : Player) (y : RealizationPlan) where
   -- what is offered at a sequence is its worth

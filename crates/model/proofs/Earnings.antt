@@ -58,4 +58,4 @@ module _ (g : Game) (q : PlanPair) where
   -- "A player's own plan earns his value."
   pub own-plan : (p : Player) → planEarnings g p (q (other p)) (q p) ≡ value g q p
   unfolding planEarnings value
-  own-plan p = λ i. record { count = own-count p i; base = bases-agree p i }
+  own-plan p = λ i. record { numerator = own-count p i; denominator = bases-agree p i }

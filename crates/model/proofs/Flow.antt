@@ -6,9 +6,9 @@ use native.Mathlib.Omega.{arith}
 use native.Mathlib.Nat as NatL
 use lib.Dec.{T, eqb, ltb, not-T, T-not, lt→ltb}
 use mir.Facts.{yes-and}
-use Rattle.algebra.specs.Bounded.{countTo}
+use Rattle.algebra.specs.Bounded.{totalTo}
 use Rattle.algebra.proofs.Tests.{dec, cond-yes, cond-no, eqb-make}
-use Rattle.algebra.proofs.Counts.{only, only-cong, only-scale, only-swap, count-cong, count-zero, count-one, count-scale, count-key, count-split}
+use Rattle.algebra.proofs.Totals.{only, only-cong, only-scale, only-swap, count-cong, count-zero, count-one, count-scale, count-key, count-split}
 use Rattle.model.specs.Game.{Game, Player, one, two, other, owns, isLeaf, isDecision, isChance}
 use Rattle.model.specs.Sequences.{Sequence, acts, ownSequence}
 use Rattle.model.specs.GameChecks.{childrenWeight}
@@ -34,7 +34,7 @@ module _ (g : Game) (R : GameRules g) (q : PlanPair) (F : (p : Player) → Fits 
 
   -- the masses of node n's children, added up
   unfoldable handedOn : ℕ → ℕ
-  handedOn n = countTo (g .nodes) (λ c. only (below g n c) (mass c))
+  handedOn n = totalTo (g .nodes) (λ c. only (below g n c) (mass c))
 
   module _ (n : ℕ) (l : n < g .nodes) where
     -- a player who does not move at n has the same weight at n's children
@@ -94,7 +94,7 @@ module _ (g : Game) (R : GameRules g) (q : PlanPair) (F : (p : Player) → Fits 
         only-cong (below g n c) _ _ (λ b.
         mass-by p c ∙ rw (weight-moves p c k b mine, weight-stays o c k b idle, child-weight t c k b) (turn (g .weight n) (X (g .move c)) (weightAt g (q o) o n))))
         ∙ children g R n l (λ m. K * X m)
-        ∙ ap (λ (k : ℕ). countTo k (λ m. K * X m)) (decision-moves g n t)
+        ∙ ap (λ (k : ℕ). totalTo k (λ m. K * X m)) (decision-moves g n t)
         ∙ sym (count-scale (g .setMoves h) K X)
         ∙ ap (λ (k : ℕ). K * k) (F p h (in-own-set g R n l t .0) (player-refl p) ∙ ap (sequenceWeight (q p)) (sym (own-leading g R p n l mine)))
         ∙ sym (turn (g .weight n) (weightAt g (q p) p n) (weightAt g (q o) o n))
@@ -121,16 +121,16 @@ module _ (g : Game) (R : GameRules g) (q : PlanPair) (F : (p : Player) → Fits 
   mass-root = rw (R .root .2, own-root g one, own-root g two, weight-empty (q one), weight-empty (q two))
 
   -- over the leaves, chance weight × the two plans' weights adds up to D0 × D1 × D2
-  pub flow : countTo (g .nodes) (λ n. only (isLeaf g n) (mass n)) ≡ g .rootWeight * (q one .denominator * q two .denominator)
+  pub flow : totalTo (g .nodes) (λ n. only (isLeaf g n) (mass n)) ≡ g .rootWeight * (q one .denominator * q two .denominator)
   unfolding handedOn
   flow =
       let N = g .nodes in
-      let leaves = countTo N (λ n. only (isLeaf g n) (mass n)) in
-      let inner = countTo N (λ n. only (not (isLeaf g n)) (mass n)) in
-      let hung = countTo N (λ n. only (ltb 0 n) (mass n)) in
-      let a : leaves + inner ≡ countTo N mass = count-split N (isLeaf g) mass in
-      let b : hung + countTo N (λ n. only (not (ltb 0 n)) (mass n)) ≡ countTo N mass = count-split N (ltb 0) mass in
-      let c : countTo N (λ n. only (not (ltb 0 n)) (mass n)) ≡ mass 0 = count-one N (λ n. only (not (ltb 0 n)) (mass n)) 0 (R .some-node) (λ i l d. cond-no (not (ltb 0 i)) (mass i) 0 (λ t. T-not (ltb 0 i) t (lt→ltb 0 i (omega arith)))) in
+      let leaves = totalTo N (λ n. only (isLeaf g n) (mass n)) in
+      let inner = totalTo N (λ n. only (not (isLeaf g n)) (mass n)) in
+      let hung = totalTo N (λ n. only (ltb 0 n) (mass n)) in
+      let a : leaves + inner ≡ totalTo N mass = count-split N (isLeaf g) mass in
+      let b : hung + totalTo N (λ n. only (not (ltb 0 n)) (mass n)) ≡ totalTo N mass = count-split N (ltb 0) mass in
+      let c : totalTo N (λ n. only (not (ltb 0 n)) (mass n)) ≡ mass 0 = count-one N (λ n. only (not (ltb 0 n)) (mass n)) 0 (R .some-node) (λ i l d. cond-no (not (ltb 0 i)) (mass i) 0 (λ t. T-not (ltb 0 i) t (lt→ltb 0 i (omega arith)))) in
       let d : hung ≡ inner =
       count-key N N (g .parent) (λ n. only (ltb 0 n) (mass n)) (parent-in g R)
       ∙ count-cong N _ _ (λ k l. count-cong N _ _ (λ n v. only-swap (eqb (g .parent n) k) (ltb 0 n) (mass n)) ∙ at-node k l) in

@@ -9,16 +9,17 @@ use lib.Dec.{T, eqb, lit<}
 use lib.ListN.{length}
 use lib.IntN.{ℤ, pos}
 use lib.Pow.{pow-pos}
+use Rattle.algebra.specs.Arrays.{item, itemZ}
 use Rattle.algebra.specs.Bounded.{joinTo, listTo}
 use Rattle.algebra.proofs.Lists.{length-listTo, listTo-at, listTo-is}
 use Rattle.model.specs.Bits.{field, pack, signed, twosComplement}
 use Rattle.model.specs.Game.{Game, gameOf, setAt, nodeAt, payoffAt, Player, one, two, playerOf, playerBit, isLeaf, isDecision, isChance}
-use Rattle.model.specs.Writing.{GameFields, playerField, setField, movesField, payoffField, fieldsOf, entry, entryZ, setCount, nodeCount, setBits, payloadBits, nodeBits, headerBits, gameBytes, gameFieldsFit}
+use Rattle.model.specs.Writing.{GameFields, playerField, setField, movesField, payoffField, fieldsOf, setCount, nodeCount, setBits, payloadBits, nodeBits, headerBits, gameBytes, gameFieldsFit}
 use Rattle.model.specs.Rules.{GameFile}
 use Rattle.model.specs.Demand2.{IsBytes}
 use Rattle.model.proofs.Tree.{bit-below, bit-back}
 use Rattle.model.proofs.Bits.{field-fits, signed-fits, twos-fits, twos-signed, signed-twos}
-use Rattle.model.proofs.Fitting.{FitsWidth, InRange, zero-in-range, Column, column, Lacks, kind-below, Fitting, game-fields-iff}
+use Rattle.model.proofs.FieldRules.{FitsWidth, InRange, zero-in-range, Column, column, Lacks, kind-below, FieldRules, game-fields-iff}
 use Rattle.model.proofs.Spelling.{BitList, bitlist-append, bitlist-cells, bitlist-records, Spells, spells-append, Cell, cellBits, cellsWidth, CellsFit, Holds, spells-cells, spells-records, pack-spells, length-pack, pack-is}
 
 module _ (t : GameFields) where
@@ -28,17 +29,17 @@ module _ (t : GameFields) where
 
   -- set entry h
   abbrev setCells : ℕ → List Cell
-  setCells h = (1, entry (t .setPlayers) h) ∷ (7, entry (t .setMoves) h) ∷ []
+  setCells h = (1, item (t .setPlayers) h) ∷ (7, item (t .setMoves) h) ∷ []
 
   -- a payload, by the node's kind
   abbrev payloadCells : (kind n : ℕ) → List Cell
-  payloadCells zero n = (16, twosComplement 16 (entryZ (t .payoffs1) n)) ∷ (16, twosComplement 16 (entryZ (t .payoffs2) n)) ∷ []
-  payloadCells (suc zero) n = (12, entry (t .nodeSets) n) ∷ (20, 0) ∷ []
-  payloadCells (suc (suc k)) n = (7, entry (t .chanceMoves) n) ∷ (25, 0) ∷ []
+  payloadCells zero n = (16, twosComplement 16 (itemZ (t .payoffs1) n)) ∷ (16, twosComplement 16 (itemZ (t .payoffs2) n)) ∷ []
+  payloadCells (suc zero) n = (12, item (t .nodeSets) n) ∷ (20, 0) ∷ []
+  payloadCells (suc (suc k)) n = (7, item (t .chanceMoves) n) ∷ (25, 0) ∷ []
 
   -- node record n
   abbrev nodeCells : ℕ → List Cell
-  nodeCells n = (2, entry (t .kinds) n) ∷ (12, entry (t .parents) n) ∷ (6, entry (t .moves) n) ∷ (12, entry (t .weights) n) ∷ payloadCells (entry (t .kinds) n) n
+  nodeCells n = (2, item (t .kinds) n) ∷ (12, item (t .parents) n) ∷ (6, item (t .moves) n) ∷ (12, item (t .weights) n) ∷ payloadCells (item (t .kinds) n) n
 
   -- the header and the set entries
   frontBits : List ℕ
@@ -71,7 +72,7 @@ module _ (t : GameFields) where
 
   -- a node record has 64 bits, whatever its kind
   node-width : (n : ℕ) → cellsWidth (nodeCells n) ≡ 64
-  node-width n = rw (payload (entry (t .kinds) n))
+  node-width n = rw (payload (item (t .kinds) n))
     where
       payload : (kind : ℕ) → cellsWidth (payloadCells kind n) ≡ 32
       payload zero = refl
@@ -103,7 +104,7 @@ node-place : (bytes : List ℕ) (sets : ℕ) → field bytes 16 12 ≡ sets → 
 unfolding nodeAt setAt
 node-place bytes sets e n = omega arith
 
-module _ (t : GameFields) (fit : Fitting t) where
+module _ (t : GameFields) (fit : FieldRules t) where
   -- the header's numbers fit
   header-fit : CellsFit (headerCells t)
   header-fit = (lit< tt, (fit .nodes, (fit .sets, (fit .rootWeight, tt))))
@@ -114,14 +115,14 @@ module _ (t : GameFields) (fit : Fitting t) where
 
   -- a payload's numbers fit
   payload-fit : (kind n : ℕ) → CellsFit (payloadCells t kind n)
-  payload-fit zero n = (twos-fits 16 (entryZ (t .payoffs1) n) (fit .payoffs1 .1 n), (twos-fits 16 (entryZ (t .payoffs2) n) (fit .payoffs2 .1 n), tt))
+  payload-fit zero n = (twos-fits 16 (itemZ (t .payoffs1) n) (fit .payoffs1 .1 n), (twos-fits 16 (itemZ (t .payoffs2) n) (fit .payoffs2 .1 n), tt))
   payload-fit (suc zero) n = (fit .nodeSets .1 n, (pow-pos 20, tt))
   payload-fit (suc (suc k)) n = (fit .chanceMoves .1 n, (pow-pos 25, tt))
 
   -- a node record's numbers fit
   node-fit : (n : ℕ) → n < nodeCount t → CellsFit (nodeCells t n)
   node-fit n l =
-      let kind = entry (t .kinds) n in
+      let kind = item (t .kinds) n in
       let fits : kind < 4 = omega (arith, kind-below t kind n (fit .kinds n l)) in
       (fits, (fit .parents .1 n, (fit .moves .1 n, (fit .weights .1 n, payload-fit kind n))))
 
@@ -145,10 +146,10 @@ module _ (t : GameFields) (fit : Fitting t) where
 -- what node n of the game has by its kind is what the lists have
 abbrev Agrees : (g : Game) (t : GameFields) (kind n : ℕ) → Type 0
 Agrees g t kind n =
-    (cond (eqb kind 1) (g .nodeSet n) 0 ≡ entry (t .nodeSets) n)
-    × (cond (eqb kind 2) (g .chanceMoves n) 0 ≡ entry (t .chanceMoves) n)
-    × (cond (eqb kind 0) (g .payoff one n) (pos 0) ≡ entryZ (t .payoffs1) n)
-    × (cond (eqb kind 0) (g .payoff two n) (pos 0) ≡ entryZ (t .payoffs2) n)
+    (cond (eqb kind 1) (g .nodeSet n) 0 ≡ item (t .nodeSets) n)
+    × (cond (eqb kind 2) (g .chanceMoves n) 0 ≡ item (t .chanceMoves) n)
+    × (cond (eqb kind 0) (g .payoff one n) (pos 0) ≡ itemZ (t .payoffs1) n)
+    × (cond (eqb kind 0) (g .payoff two n) (pos 0) ≡ itemZ (t .payoffs2) n)
 
 module _ (bytes : List ℕ) (p : Player) (n : ℕ) where
   -- where the payoff stands
@@ -170,7 +171,7 @@ module _ (bytes : List ℕ) (p : Player) (n : ℕ) where
   unfolding gameOf
   payoff-fits = signed-fits 16 (field bytes payoffPlace 16) (field-fits bytes payoffPlace 16)
 
-module _ (t : GameFields) (fit : Fitting t) (bytes : List ℕ) where
+module _ (t : GameFields) (fit : FieldRules t) (bytes : List ℕ) where
   -- a payload that is written is read back
   payload-read : (kind n : ℕ) → Lacks t kind n → Holds bytes (nodeAt bytes n) 32 (payloadCells t kind n) → Agrees (gameOf bytes) t kind n
   unfolding gameOf
@@ -184,7 +185,7 @@ module _ (t : GameFields) (fit : Fitting t) (bytes : List ℕ) where
   unfolding fieldsOf playerField setField movesField payoffField gameOf isLeaf isDecision isChance setCount nodeCount
   fields-read r = λ i. record {
     rootWeight = r .header .1 .1 .1 .0 i;
-    setPlayers = listTo-is 0 _ (t .setPlayers) sets refl (λ h l. ap (λ (x : ℕ). playerBit (playerOf x)) (r .set h l .0) ∙ bit-back (entry (t .setPlayers) h) (fit .setPlayers h)) i;
+    setPlayers = listTo-is 0 _ (t .setPlayers) sets refl (λ h l. ap (λ (x : ℕ). playerBit (playerOf x)) (r .set h l .0) ∙ bit-back (item (t .setPlayers) h) (fit .setPlayers h)) i;
     setMoves = listTo-is 0 _ (t .setMoves) sets (fit .setMoves .0) (λ h l. r .set h l .1 .0) i;
     kinds = listTo-is 0 _ (t .kinds) nodes refl (λ n l. r .node n l .0) i;
     parents = listTo-is 0 _ (t .parents) nodes (fit .parents .0) (λ n l. r .node n l .1 .0) i;
@@ -203,7 +204,7 @@ module _ (t : GameFields) (fit : Fitting t) (bytes : List ℕ) where
       nodes = r .header .1 .0
 
       payload : (n : ℕ) → n < nodeCount t → Agrees (gameOf bytes) t (gameOf bytes .kind n) n
-      payload n l = rw (r .node n l .0) (payload-read (entry (t .kinds) n) n (fit .kinds n l) (r .node n l .1 .1 .1 .1))
+      payload n l = rw (r .node n l .0) (payload-read (item (t .kinds) n) n (fit .kinds n l) (r .node n l .1 .1 .1 .1))
 
 module _ (g : Game) where
   -- the lists show H
@@ -240,14 +241,14 @@ module _ (bytes : List ℕ) (file : GameFile bytes) where
   payload-held (suc (suc (suc k))) n l e b a = absurd (omega arith)
 
   -- the same of the kind that the lists show
-  kind-held : (n : ℕ) → n < gameOf bytes .nodes → let kind = entry (fieldsIn bytes .kinds) n in Lacks (fieldsIn bytes) kind n × Holds bytes (nodeAt bytes n) 32 (payloadCells (fieldsIn bytes) kind n)
+  kind-held : (n : ℕ) → n < gameOf bytes .nodes → let kind = item (fieldsIn bytes .kinds) n in Lacks (fieldsIn bytes) kind n × Holds bytes (nodeAt bytes n) 32 (payloadCells (fieldsIn bytes) kind n)
   unfolding fieldsOf
   kind-held n l =
       let g = gameOf bytes in
       rw (listTo-at 0 (g .nodes) (g .kind) n l) (payload-held (g .kind n) n l refl (file .rules .kinds n l) (fields-agree g n l))
 
   -- the writer takes the fields of the file
-  fields-fit : Fitting (fieldsIn bytes)
+  fields-fit : FieldRules (fieldsIn bytes)
   unfolding fieldsOf playerField setField movesField payoffField gameOf
   fields-fit = record {
     sets = rw (set-count g) (field-fits bytes 16 12);

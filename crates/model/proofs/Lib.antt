@@ -1,4 +1,4 @@
-pub mod Answers
+pub mod AllStarred
 pub mod BestResponses
 pub mod Bits
 pub mod Budget
@@ -12,8 +12,7 @@ pub mod Demand2
 pub mod Demand3
 pub mod Duality
 pub mod Earnings
-pub mod Fields
-pub mod Fitting
+pub mod FieldRules
 pub mod Flow
 pub mod GameRules
 pub mod GameTrips
@@ -27,6 +26,7 @@ pub mod Reached
 pub mod Reasons
 pub mod Recall
 pub mod Rows
+pub mod Rules
 pub mod SamePlans
 pub mod SequenceForm
 pub mod Sequences

@@ -8,9 +8,9 @@ use native.Mathlib.Decide.{ℕ-discrete, decLt}
 use lib.Dec.{T, eqb, eqb→eq, ltb, lt→ltb, T-not}
 use lib.ListN.{length, getD, List·getD-append}
 use lib.Seq.{getD-append-add}
-use Rattle.algebra.specs.Bounded.{countTo, joinTo, listTo}
+use Rattle.algebra.specs.Bounded.{totalTo, joinTo, listTo}
 use Rattle.algebra.proofs.Tests.{cond-yes, cond-no}
-use Rattle.algebra.proofs.Counts.{only, only-most, only-swap, count-suc, count-cong, count-le, count-zero, count-ones, count-plus, count-swap, count-less, count-one, count-pick, count-key, count-split}
+use Rattle.algebra.proofs.Totals.{only, only-most, only-swap, count-suc, count-cong, count-le, count-zero, count-ones, count-plus, count-swap, count-less, count-one, count-pick, count-key, count-split}
 use Rattle.algebra.proofs.Lists.{length-joins, length-listTo, listTo-at}
 use Rattle.model.specs.Game.{Game, Player, one, two, samePlayer, owns, nodeMoves, movesBefore}
 use Rattle.model.specs.Sequences.{Sequence, extended, ownSequence, firstNode, leading, moveNumber, sequenceNumber, leadingNumber, sequenceCount}
@@ -64,14 +64,14 @@ module _ (g : Game) (p : Player) where
       λ i. extended (leading g (d .0 i)) (d .0 i) (d .1 i)
 
 -- where the elements of one of the joined lists are
-joined-at {ℓ} : {A : Type ℓ} (d : A) (n : ℕ) (f : ℕ → List A) (h m : ℕ) → h < n → m < length (f h) → getD (joinTo n f) (countTo h (λ i. length (f i)) + m) d ≡ getD (f h) m d
+joined-at {ℓ} : {A : Type ℓ} (d : A) (n : ℕ) (f : ℕ → List A) (h m : ℕ) → h < n → m < length (f h) → getD (joinTo n f) (totalTo h (λ i. length (f i)) + m) d ≡ getD (f h) m d
 unfolding joinTo
 joined-at d zero f h m l b = absurd (omega arith)
 joined-at {A = A} d (suc n) f h m l b =
     let size : ℕ → ℕ = λ i. length (f i) in
     elim (ℕ-discrete h n) [
-      | yes e ↦ ap (λ (k : ℕ). getD (joinTo n f ++ f n) (k + m) d) (ap (λ (k : ℕ). countTo k size) e ∙ sym (length-joins n f)) ∙ getD-append-add (joinTo n f) (f n) m d ∙ ap (λ (k : ℕ). getD (f k) m d) (sym e)
-      | no e ↦ List·getD-append (joinTo n f) (f n) d (countTo h size + m) (omega (arith, length-joins n f, count-less n (suc h) size (omega arith), count-suc h size)) ∙ joined-at d n f h m (omega arith) b
+      | yes e ↦ ap (λ (k : ℕ). getD (joinTo n f ++ f n) (k + m) d) (ap (λ (k : ℕ). totalTo k size) e ∙ sym (length-joins n f)) ∙ getD-append-add (joinTo n f) (f n) m d ∙ ap (λ (k : ℕ). getD (f k) m d) (sym e)
+      | no e ↦ List·getD-append (joinTo n f) (f n) d (totalTo h size + m) (omega (arith, length-joins n f, count-less n (suc h) size (omega arith), count-suc h size)) ∙ joined-at d n f h m (omega arith) b
     ]
 
 module _ (g : Game) (p : Player) where
@@ -92,8 +92,8 @@ module _ (g : Game) (p : Player) where
   unfolding moveNumber movesBefore
   move-place h m l o b =
       let own : ending h ≡ listTo (g .setMoves h) (extended (leading g h) h) = cond-yes (owns g p h) _ _ o in
-      let before : countTo h (λ i. length (ending i)) ≡ movesBefore g p h = count-cong h _ _ (λ i v. length-ending i) in
-      let number : moveNumber g p (h, m) ≡ suc (countTo h (λ i. length (ending i)) + m) = omega (arith, before) in
+      let before : totalTo h (λ i. length (ending i)) ≡ movesBefore g p h = count-cong h _ _ (λ i v. length-ending i) in
+      let number : moveNumber g p (h, m) ≡ suc (totalTo h (λ i. length (ending i)) + m) = omega (arith, before) in
       ap (λ (k : ℕ). getD ([] ∷ joinTo (g .sets) ending) k []) number
       ∙ joined-at [] (g .sets) ending h m l (omega (arith, length-ending h, cond-yes (owns g p h) (g .setMoves h) 0 o))
       ∙ rw own (listTo-at [] (g .setMoves h) (extended (leading g h) h) m b)
@@ -127,19 +127,19 @@ module _ (g : Game) (R : GameRules g) where
       (number-below g p (leading g h) s, number-place g p (leading g h) s)
 
   -- every node but the root stands at one move
-  nodes-at-moves : countTo (g .nodes) (nodeMoves g) + 1 ≡ g .nodes
+  nodes-at-moves : totalTo (g .nodes) (nodeMoves g) + 1 ≡ g .nodes
   nodes-at-moves =
       let N = g .nodes in
-      let hung = countTo N (λ c. only (ltb 0 c) 1) in
-      let a : hung ≡ countTo N (nodeMoves g) =
+      let hung = totalTo N (λ c. only (ltb 0 c) 1) in
+      let a : hung ≡ totalTo N (nodeMoves g) =
       count-key N N (g .parent) (λ c. only (ltb 0 c) 1) (parent-in g R)
       ∙ count-cong N _ _ (λ n l. count-cong N _ _ (λ c v. only-swap (eqb (g .parent c) n) (ltb 0 c) 1) ∙ children g R n l (λ m. 1) ∙ count-ones (nodeMoves g n)) in
       let b = count-split N (ltb 0) (λ n. 1) in
-      let c : countTo N (λ n. only (not (ltb 0 n)) 1) ≡ 1 = count-one N (λ n. only (not (ltb 0 n)) 1) 0 (R .some-node) (λ i l d. cond-no (not (ltb 0 i)) 1 0 (λ t. T-not (ltb 0 i) t (lt→ltb 0 i (omega arith)))) in
+      let c : totalTo N (λ n. only (not (ltb 0 n)) 1) ≡ 1 = count-one N (λ n. only (not (ltb 0 n)) 1) 0 (R .some-node) (λ i l d. cond-no (not (ltb 0 i)) 1 0 (λ t. T-not (ltb 0 i) t (lt→ltb 0 i (omega arith)))) in
       omega (arith, a, b, c, count-ones N)
 
   -- at most one set begins at a node
-  sets-at-node : (n : ℕ) → countTo (g .sets) (λ h. only (eqb (firstNode g h) n) (nodeMoves g n)) ≤ nodeMoves g n
+  sets-at-node : (n : ℕ) → totalTo (g .sets) (λ h. only (eqb (firstNode g h) n) (nodeMoves g n)) ≤ nodeMoves g n
   sets-at-node n =
       let f : ℕ → ℕ = λ h. only (eqb (firstNode g h) n) (nodeMoves g n) in
       elim (decLt (g .nodeSet n) (g .sets)) [
@@ -151,16 +151,16 @@ module _ (g : Game) (R : GameRules g) where
       elsewhere h v d = cond-no (eqb (firstNode g h) n) (nodeMoves g n) 0 (λ t. d (sym (first-set g R h v .1) ∙ ap (g .nodeSet) (eqb→eq (firstNode g h) n t)))
 
   -- the moves of all sets together are at most N - 1
-  pub moves-few : countTo (g .sets) (g .setMoves) < g .nodes
+  pub moves-few : totalTo (g .sets) (g .setMoves) < g .nodes
   moves-few =
       let N = g .nodes in
-      let a : countTo (g .sets) (g .setMoves) ≡ countTo N (λ n. countTo (g .sets) (λ h. only (eqb (firstNode g h) n) (nodeMoves g n))) =
+      let a : totalTo (g .sets) (g .setMoves) ≡ totalTo N (λ n. totalTo (g .sets) (λ h. only (eqb (firstNode g h) n) (nodeMoves g n))) =
       count-cong (g .sets) _ _ (λ h l. sym (count-pick N (firstNode g h) (nodeMoves g) (first-in g R h l .1) ∙ first-set g R h l .2))
       ∙ count-swap (g .sets) N (λ h n. only (eqb (firstNode g h) n) (nodeMoves g n)) in
       omega (arith, a, count-le N _ (nodeMoves g) (λ n l. sets-at-node n), nodes-at-moves)
 
   -- each move is one player's
-  split-moves : (k : ℕ) → movesBefore g one k + movesBefore g two k ≡ countTo k (g .setMoves)
+  split-moves : (k : ℕ) → movesBefore g one k + movesBefore g two k ≡ totalTo k (g .setMoves)
   unfolding movesBefore owns
   split-moves k = count-plus k _ _ ∙ count-cong k _ _ (λ h l. go (g .setPlayer h) (g .setMoves h))
     where

@@ -5,7 +5,7 @@ use mathlib.Core.List.{List}
 use native.Mathlib.Omega.{arith}
 use lib.Dec.{T, eqb}
 use lib.ListN.{length}
-use Rattle.algebra.specs.Bounded.{countTo}
+use Rattle.algebra.specs.Bounded.{totalTo}
 use Rattle.model.specs.Bits.{bit, field}
 use Rattle.model.specs.Game.{Game, Player, one, two, owns}
 use Rattle.model.specs.Sequences.{leading}
@@ -45,12 +45,12 @@ module _ (g : Game) where
 
   -- p's plan fits
   abbrev Fit : Player → RealizationPlan → Type 0
-  Fit p x = (h : ℕ) → h < g .sets → T (owns g p h) → countTo (g .setMoves h) (x .moveWeight h) ≡ sequenceWeight x (leading g h)
+  Fit p x = (h : ℕ) → h < g .sets → T (owns g p h) → totalTo (g .setMoves h) (x .moveWeight h) ≡ sequenceWeight x (leading g h)
 
   -- its test
   fits-iff : (p : Player) (x : RealizationPlan) → Decides (fits g p x) (Fit p x)
   unfolding fits balanced
-  fits-iff p x = all-iff (λ h l. implies-iff (itself-iff (owns g p h)) (eqb-iff (countTo (g .setMoves h) (x .moveWeight h)) (sequenceWeight x (leading g h))))
+  fits-iff p x = all-iff (λ h l. implies-iff (itself-iff (owns g p h)) (eqb-iff (totalTo (g .setMoves h) (x .moveWeight h)) (sequenceWeight x (leading g h))))
 
   -- check 16
   pub pair-fits-iff : (q : PlanPair) → Decides (pairFits g q) ((p : Player) → Fit p (q p))

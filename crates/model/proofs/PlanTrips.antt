@@ -14,7 +14,7 @@ use Rattle.model.specs.Writing.{planBytes, planFieldsFit}
 use Rattle.model.specs.Rules.{PlanFile}
 use Rattle.model.specs.Demand2.{IsBytes}
 use Rattle.model.proofs.Bits.{field-fits, length-fields}
-use Rattle.model.proofs.Fitting.{FitsWidth, column, PlanFitting, plan-fields-iff}
+use Rattle.model.proofs.FieldRules.{FitsWidth, column, PlanFitting, plan-fields-iff}
 use Rattle.model.proofs.Spelling.{BitList, bitlist-append, bitlist-cells, bitlist-run, Spells, spells-append, Cell, cellBits, Holds, spells-cells, spells-run, pack-spells, length-pack, pack-is}
 
 module _ (d1 d2 : ℕ) (weights : List ℕ) where

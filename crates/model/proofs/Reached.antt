@@ -5,9 +5,9 @@ use mathlib.Core.Bool.{cond}
 use native.Mathlib.Omega.{arith}
 use native.Mathlib.Decide.{decLt}
 use lib.Dec.{T}
-use Rattle.algebra.specs.Bounded.{countTo}
+use Rattle.algebra.specs.Bounded.{totalTo}
 use Rattle.algebra.proofs.Tests.{dec, cond-yes, cond-no}
-use Rattle.algebra.proofs.Counts.{count-suc}
+use Rattle.algebra.proofs.Totals.{count-suc}
 use Rattle.model.specs.Game.{Game, Player, owns, inSet, movesBefore}
 use Rattle.model.specs.Sequences.{Sequence, extended, acts, ownSequence, firstNode, leading, moveNumber, sequenceNumber, sequenceCount}
 use Rattle.model.specs.Rules.{GameRules}
@@ -32,7 +32,7 @@ pub record SequenceAt (g : Game) (p : Player) (n : ℕ) : Type 0 where
 module _ (g : Game) (p : Player) where
   -- the moves of p's sets have all numbers up to how many they are
   pub move-found : (h n : ℕ) → n < movesBefore g p h → MoveBelow g p h n
-  unfolding movesBefore countTo
+  unfolding movesBefore totalTo
   move-found zero n l = absurd (omega arith)
   move-found (suc h) n l =
       elim (decLt n (movesBefore g p h)) [

@@ -7,7 +7,7 @@ use mathlib.Core.List.{List, [], _∷_}
 use native.Mathlib.Omega.{arith}
 use lib.Dec.{T, ltb}
 use lib.ListN.{length}
-use Rattle.algebra.specs.Bounded.{allTo, anyTo, countTo}
+use Rattle.algebra.specs.Bounded.{allTo, anyTo, totalTo}
 use Rattle.model.specs.Bits.{field}
 use Rattle.model.specs.Game.{Game, gameOf, nodeAt, Player, one, two, owns, inSet, nodeMoves}
 use Rattle.model.specs.Sequences.{ownSequence, leading}
@@ -207,7 +207,7 @@ module _ (g : Game) where
   unfolding fits balanced
   fits-fails q p =
       same-fails (λ r. let (h, l, (o, d)) = r in (h, (l, o, d))) (λ r. let (h, (l, o, d)) = r in (h, l, (o, d)))
-      (all-fails (g .sets) (λ h l. implies-fails (itself-iff (owns g p h)) (eqb-fails (countTo (g .setMoves h) (q p .moveWeight h)) (sequenceWeight (q p) (leading g h)))))
+      (all-fails (g .sets) (λ h l. implies-fails (itself-iff (owns g p h)) (eqb-fails (totalTo (g .setMoves h) (q p .moveWeight h)) (sequenceWeight (q p) (leading g h)))))
 
   -- check 16
   pair-fits-fails : (q : PlanPair) → Fails (pairFits g q) ((p : Player) × (h : ℕ) × Unbalanced g q p h)

@@ -12,7 +12,7 @@ use Rattle.model.specs.Sequences.{Sequence, extended, leading}
 use Rattle.model.specs.Plan.{RealizationPlan, PlanPair, weightAt}
 use Rattle.model.specs.Earnings.{leafTerm, valueTerm, valueCount}
 use Rattle.model.specs.BestResponse.{leadsTo, greatestWorth, leavesWorth, worthIn, worth, setWorth, bestCount, bestMove, bestAt, bestResponse}
-use Rattle.model.specs.Verdict.{scaledBest, gain, deviates, verdict}
+use Rattle.model.specs.Verdict.{scaledBest, gain, deviationOf, verdict}
 use Rattle.model.proofs.Worths.{greatest-cong}
 
 -- two plans of p's give his own sequence to each node the same weight
@@ -89,11 +89,11 @@ module _ (g : Game) (q r : PlanPair) (same : (p : Player) → SameWeights g p (q
     gain-agrees p = rw (scaled-best-agrees p, value-count-agrees p)
 
     -- how he does
-    pub deviates-agrees : (p : Player) → deviates g q p ≡ deviates g r p
-    unfolding deviates
-    deviates-agrees p = rw (gain-agrees p, best-response-agrees g p (q (other p)) (r (other p)) (same (other p)))
+    pub deviation-agrees : (p : Player) → deviationOf g q p ≡ deviationOf g r p
+    unfolding deviationOf
+    deviation-agrees p = rw (gain-agrees p, best-response-agrees g p (q (other p)) (r (other p)) (same (other p)))
 
     -- so the verdict is the same
     pub verdict-agrees : verdict g q ≡ verdict g r
     unfolding verdict
-    verdict-agrees = rw (gain-agrees one, gain-agrees two, deviates-agrees one, deviates-agrees two)
+    verdict-agrees = rw (gain-agrees one, gain-agrees two, deviation-agrees one, deviation-agrees two)

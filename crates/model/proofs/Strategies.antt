@@ -10,7 +10,7 @@ use lib.IntN.{ℤ, pos, _+ℤ_, _*ℤ_, zero-*ℤ, +ℤ-idr}
 use lib.Signed.{_≤ℤ_, ≤ℤ-refl}
 use Rattle.algebra.specs.Bounded.{sumWhere}
 use Rattle.algebra.proofs.Integers.{+ℤ-mono, scale-mono, scale-plus, scale-scale, scale-one}
-use Rattle.algebra.proofs.Counts.{only, only-only, count-cong, count-pick}
+use Rattle.algebra.proofs.Totals.{only, only-only, count-cong, count-pick}
 use Rattle.algebra.proofs.Sums.{onlyZ, sum-cong, whereZ-is, where-tests}
 use Rattle.model.specs.Game.{Game, Player, owns, isLeaf}
 use Rattle.model.specs.Sequences.{Sequence, extended, acts, ownSequence, leading}

@@ -15,19 +15,19 @@ use Rattle.algebra.proofs.Sums.{onlyZ, sum-cong, sum-zero, sum-swap, sum-pick, 
 use Rattle.model.specs.Game.{Game, Player, one, two, isLeaf}
 use Rattle.model.specs.Sequences.{sequenceCount, ownSequence}
 use Rattle.model.specs.Plan.{PlanPair, weightAt, RealizationPlan, sequenceWeight}
-use Rattle.model.specs.Table.{Row, ownNumber, standsAt, weightedPayoff, pairSum, rowAt, rowsAt, payoffTable}
+use Rattle.model.specs.Table.{TableRow, ownNumber, standsAt, weightedPayoff, pairSum, rowAt, rowsAt, payoffTable}
 use Rattle.model.specs.Earnings.{valueTerm, valueCount}
 use Rattle.model.specs.Rules.{GameRules}
 use Rattle.model.specs.Demand2.{sumOf, tableSum, numberWeight}
 use Rattle.model.proofs.Numbers.{own-number-below, own-number-place}
 
 -- the sum over joined rows
-table-append : (p : Player) (x y : ℕ → ℕ) (a b : List Row) → tableSum p x y (a ++ b) ≡ tableSum p x y a +ℤ tableSum p x y b
+table-append : (p : Player) (x y : ℕ → ℕ) (a b : List TableRow) → tableSum p x y (a ++ b) ≡ tableSum p x y a +ℤ tableSum p x y b
 unfolding tableSum
 table-append p x y [] b = sym (+ℤ-idl (tableSum p x y b))
 table-append p x y (r ∷ a) b = rw (table-append p x y a b) (sym (+ℤ-assoc (pos (x (r .sequence1) * y (r .sequence2)) *ℤ sumOf p r) (tableSum p x y a) (tableSum p x y b)))
 
-table-join : (p : Player) (x y : ℕ → ℕ) (n : ℕ) (f : ℕ → List Row) → tableSum p x y (joinTo n f) ≡ sumTo n (λ i. tableSum p x y (f i))
+table-join : (p : Player) (x y : ℕ → ℕ) (n : ℕ) (f : ℕ → List TableRow) → tableSum p x y (joinTo n f) ≡ sumTo n (λ i. tableSum p x y (f i))
 unfolding tableSum joinTo sumTo
 table-join p x y zero f = refl
 table-join p x y (suc n) f = table-append p x y (joinTo n f) (f n) ∙ ap (λ (z : ℤ). z +ℤ tableSum p x y (f n)) (table-join p x y n f)

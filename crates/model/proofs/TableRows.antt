@@ -14,23 +14,23 @@ use Rattle.algebra.proofs.Searches.{anyTo-find, anyTo-make}
 use Rattle.algebra.proofs.Sorted.{All, all-at, all-map, all-join, Some, some-join, Sorted, sorted-at, sorted-join}
 use Rattle.model.specs.Game.{Game, Player, one, two}
 use Rattle.model.specs.Sequences.{sequenceCount}
-use Rattle.model.specs.Table.{Row, standsAt, pairSum, rowAt, rowsAt, payoffTable}
+use Rattle.model.specs.Table.{TableRow, standsAt, pairSum, rowAt, rowsAt, payoffTable}
 use Rattle.model.specs.Rules.{GameRules}
 use Rattle.model.specs.Demand2.{sumOf, tableRow, HasRow, HasLeaf, Before}
 use Rattle.model.proofs.Numbers.{own-number-below}
 use Rattle.model.proofs.Table.{stands-parts, stands-make}
 
 -- what is past the table's end
-abbrev noRow : Row
+abbrev noRow : TableRow
 noRow = record { sequence1 = 0; sequence2 = 0; sum1 = pos 0; sum2 = pos 0 }
 
 -- the row of sequences s and t
-abbrev IsAt : (s t : ℕ) → Row → Type 0
+abbrev IsAt : (s t : ℕ) → TableRow → Type 0
 IsAt s t r = (r .sequence1 ≡ s) × (r .sequence2 ≡ t)
 
 module _ (g : Game) where
   -- what is true of a row
-  record Right (r : Row) : Type 0 where
+  record Right (r : TableRow) : Type 0 where
     leaf : HasLeaf g (r .sequence1) (r .sequence2)
     sums : (p : Player) → sumOf p r ≡ pairSum g p (r .sequence1) (r .sequence2)
 
@@ -78,7 +78,7 @@ module _ (g : Game) where
   all-sorted : Sorted Before (payoffTable g)
   unfolding payoffTable
   all-sorted =
-      let first : ℕ → Row → Type 0 = λ s r. r .sequence1 ≡ s in
+      let first : ℕ → TableRow → Type 0 = λ s r. r .sequence1 ≡ s in
       sorted-join Before first (sequenceCount g one) (λ s. joinTo (sequenceCount g two) (rowsAt g s))
       (λ s. all-join (first s) (sequenceCount g two) (rowsAt g s) (λ t l. all-map (IsAt s t) (first s) (rowsAt g s t) (λ r k. k .0) (pair-at s t)))
       (λ s. sorted-join Before (IsAt s) (sequenceCount g two) (rowsAt g s) (pair-at s) (pair-sorted s) (λ t u x y l a b. inr (a .0 ∙ sym (b .0), omega (arith, a .1, b .1))))

@@ -7,10 +7,10 @@ use native.Mathlib.Omega.{arith}
 use lib.ListN.{length}
 use lib.Dec.{T, eqb, eqb→eq, eqb-refl, ltb, ltb→lt, lt→ltb}
 use mir.Facts.{and-yes, yes-and}
-use Rattle.algebra.specs.Bounded.{countTo}
+use Rattle.algebra.specs.Bounded.{totalTo}
 use Rattle.algebra.proofs.Tests.{cond-yes, cond-no, eqb-make}
 use Rattle.algebra.proofs.Searches.{firstTo-found, firstTo-least}
-use Rattle.algebra.proofs.Counts.{only, count-cong, count-zero, count-one, count-swap, count-pick}
+use Rattle.algebra.proofs.Totals.{only, count-cong, count-zero, count-one, count-swap, count-pick}
 use Rattle.model.specs.Game.{Game, Player, one, two, other, samePlayer, playerOf, playerBit, owns, isLeaf, isDecision, isChance, inSet, nodeMoves}
 use Rattle.model.specs.Sequences.{Sequence, extended, acts, walk, ownSequence, firstNode, leading}
 use Rattle.model.specs.GameChecks.{isChild}
@@ -238,7 +238,7 @@ module _ (g : Game) (R : GameRules g) where
   leaf-childless n (suc c) t l b = omega (arith, ap (nodeMoves g) (below-is g n (suc c) b .1), leaf-moves g n t, R .at-move c l)
 
   -- the children of n, by their moves: each move has one
-  pub children : (n : ℕ) → n < g .nodes → (f : ℕ → ℕ) → countTo (g .nodes) (λ c. only (below g n c) (f (g .move c))) ≡ countTo (nodeMoves g n) f
+  pub children : (n : ℕ) → n < g .nodes → (f : ℕ → ℕ) → totalTo (g .nodes) (λ c. only (below g n c) (f (g .move c))) ≡ totalTo (nodeMoves g n) f
   unfolding isChild
   children n l f =
       count-cong (g .nodes) _ _ (λ c k. spread c k)
@@ -249,11 +249,11 @@ module _ (g : Game) (R : GameRules g) where
       in-range zero k t = absurd (omega (arith, below-is g n 0 t .0))
       in-range (suc c) k t = subst (λ (j : ℕ). g .move (suc c) < nodeMoves g j) (below-is g n (suc c) t .1) (R .at-move c k)
 
-      by-move : (c : ℕ) (b : Bool) → (T b → g .move c < nodeMoves g n) → only b (f (g .move c)) ≡ countTo (nodeMoves g n) (λ m. only (b && eqb (g .move c) m) (f m))
+      by-move : (c : ℕ) (b : Bool) → (T b → g .move c < nodeMoves g n) → only b (f (g .move c)) ≡ totalTo (nodeMoves g n) (λ m. only (b && eqb (g .move c) m) (f m))
       by-move c true h = sym (count-pick (nodeMoves g n) (g .move c) f (h tt))
       by-move c false h = sym (count-zero (nodeMoves g n) (λ m. 0) (λ i v. refl))
 
-      spread : (c : ℕ) → c < g .nodes → only (below g n c) (f (g .move c)) ≡ countTo (nodeMoves g n) (λ m. only (isChild g n m c) (f m))
+      spread : (c : ℕ) → c < g .nodes → only (below g n c) (f (g .move c)) ≡ totalTo (nodeMoves g n) (λ m. only (isChild g n m c) (f m))
       spread c k = by-move c (below g n c) (in-range c k)
 
       stands : (m c : ℕ) → c < g .nodes → T (isChild g n m c) → IsChildAt g n m c
@@ -262,7 +262,7 @@ module _ (g : Game) (R : GameRules g) where
           let b = below-is g n c (a .0) in
           (k, b .0, b .1, eqb→eq (g .move c) m (a .1))
 
-      gather : (m : ℕ) → ExactlyOne (IsChildAt g n m) → countTo (g .nodes) (λ i. only (isChild g n m i) (f m)) ≡ f m
+      gather : (m : ℕ) → ExactlyOne (IsChildAt g n m) → totalTo (g .nodes) (λ i. only (isChild g n m i) (f m)) ≡ f m
       gather m e =
           let c = e .0 in
           let s = e .1 in

@@ -16,7 +16,7 @@ use Rattle.model.specs.Sequences.{Move}
 use Rattle.model.specs.Plan.{PlanPair, planPairOf, Fits}
 use Rattle.model.specs.Earnings.{AtMost, Equal, minus, listed, IsMixed, pureCount, againstBase, pureEarnings, mixedEarnings, planCount, planEarnings, valueBase, valueCount}
 use Rattle.model.specs.BestResponse.{bestCount, bestResponse}
-use Rattle.model.specs.Verdict.{Verdict, equilibrium, deviation, scaledBest, gain, deviates, verdict}
+use Rattle.model.specs.Verdict.{Verdict, equilibrium, deviation, scaledBest, gain, deviationOf, verdict}
 use Rattle.model.specs.Checks.{GameAccepted, PlanFits}
 use Rattle.model.specs.Rules.{GameRules}
 use Rattle.model.specs.Demand3.{NoProfitableDeviation, moveWorth, LowestBest, Deviates, BasesPositive}
@@ -49,7 +49,7 @@ deviation≢equilibrium p z l e = let z : _≡_ {A = ℕ} 0 1 = ap code e in ome
     code (deviation p z l) = 0
 
 -- the difference of a over E and c over d × E is (d × a - c) over d × E
-difference : (d E v : ℕ) (a c : ℤ) → d * E ≡ v → Equal (record { count = pos d *ℤ a -ℤ c; base = v }) (minus (record { count = a; base = E }) (record { count = c; base = d * E }))
+difference : (d E v : ℕ) (a c : ℤ) → d * E ≡ v → Equal (record { numerator = pos d *ℤ a -ℤ c; denominator = v }) (minus (record { numerator = a; denominator = E }) (record { numerator = c; denominator = d * E }))
 difference d E v a c e =
     let same : pos (d * E) *ℤ a -ℤ pos E *ℤ c ≡ pos E *ℤ (pos d *ℤ a -ℤ c) =
     ap (λ (z : ℤ). z -ℤ pos E *ℤ c) (sym (scale-scale E d a ∙ ap (λ (k : ℕ). pos k *ℤ a) (NatL.mul-comm E d))) ∙ sym (scale-sub E (pos d *ℤ a) c) in
@@ -108,14 +108,14 @@ module _ (g : Game) (R : GameRules g) (q : PlanPair) (F : (p : Player) → Fits 
       })
 
   -- the best response gains exactly the stated gain
-  exact-gain : (p : Player) → Equal (record { count = gain g q p; base = valueBase g q }) (minus (pureEarnings g p (q (other p)) (listed (bestResponse g p (q (other p))))) (planEarnings g p (q (other p)) (q p)))
+  exact-gain : (p : Player) → Equal (record { numerator = gain g q p; denominator = valueBase g q }) (minus (pureEarnings g p (q (other p)) (listed (bestResponse g p (q (other p))))) (planEarnings g p (q (other p)) (q p)))
   unfolding gain scaledBest pureEarnings planEarnings
   exact-gain p =
       let d = q p .denominator in
       let y = q (other p) in
       let c = planCount g p y (q p) in
-      subst (λ (v : ℤ). Equal (record { count = pos d *ℤ bestCount g p y -ℤ v; base = valueBase g q }) (minus (record { count = pureCount g p y (listed (bestResponse g p y)); base = againstBase g y }) (record { count = c; base = d * againstBase g y }))) (own-count g q p)
-      (subst (λ (a : ℤ). Equal (record { count = pos d *ℤ bestCount g p y -ℤ c; base = valueBase g q }) (minus (record { count = a; base = againstBase g y }) (record { count = c; base = d * againstBase g y }))) (sym (response-earns g p y R))
+      subst (λ (v : ℤ). Equal (record { numerator = pos d *ℤ bestCount g p y -ℤ v; denominator = valueBase g q }) (minus (record { numerator = pureCount g p y (listed (bestResponse g p y)); denominator = againstBase g y }) (record { numerator = c; denominator = d * againstBase g y }))) (own-count g q p)
+      (subst (λ (a : ℤ). Equal (record { numerator = pos d *ℤ bestCount g p y -ℤ c; denominator = valueBase g q }) (minus (record { numerator = a; denominator = againstBase g y }) (record { numerator = c; denominator = d * againstBase g y }))) (sym (response-earns g p y R))
       (difference d (againstBase g y) (valueBase g q) (bestCount g p y) c (bases-agree g q p)))
 
   -- what the best response of a player who can gain says
@@ -156,7 +156,7 @@ module _ (g : Game) (R : GameRules g) (q : PlanPair) (F : (p : Player) → Fits 
 
     -- the answer, by which player can gain
     pub verdict-means : VerdictMeans g q
-    unfolding verdict deviates
+    unfolding verdict deviationOf
     verdict-means = record {
       accepts = (yes-means, means-yes);
       shows = λ p z l e. subst Means e shown;
@@ -170,32 +170,32 @@ module _ (g : Game) (R : GameRules g) (q : PlanPair) (F : (p : Player) → Fits 
         b = ltZ (pos 0) (gain g q two)
 
         second : Verdict
-        second = cond b (deviates g q two) equilibrium
+        second = cond b (deviationOf g q two) equilibrium
 
-        shown : Means (cond a (deviates g q one) second)
+        shown : Means (cond a (deviationOf g q one) second)
         shown =
             elim (dec a) [
-              | yes t ↦ subst Means (sym (cond-yes a (deviates g q one) second t)) (deviating one t (λ e. absurd (one≢two e)))
-              | no n ↦ subst Means (sym (cond-no a (deviates g q one) second n))
+              | yes t ↦ subst Means (sym (cond-yes a (deviationOf g q one) second t)) (deviating one t (λ e. absurd (one≢two e)))
+              | no n ↦ subst Means (sym (cond-no a (deviationOf g q one) second n))
                   (elim (dec b) [
-                    | yes t ↦ subst Means (sym (cond-yes b (deviates g q two) equilibrium t)) (deviating two t (λ e. content one n))
-                    | no m ↦ subst Means (sym (cond-no b (deviates g q two) equilibrium m)) tt
+                    | yes t ↦ subst Means (sym (cond-yes b (deviationOf g q two) equilibrium t)) (deviating two t (λ e. content one n))
+                    | no m ↦ subst Means (sym (cond-no b (deviationOf g q two) equilibrium m)) tt
                   ])
             ]
 
-        yes-means : cond a (deviates g q one) second ≡ equilibrium → NoProfitableDeviation g q one × NoProfitableDeviation g q two
+        yes-means : cond a (deviationOf g q one) second ≡ equilibrium → NoProfitableDeviation g q one × NoProfitableDeviation g q two
         yes-means e = (
-          content one (λ t. deviation≢equilibrium one (gain g q one) (bestResponse g one (q two)) (sym (cond-yes a (deviates g q one) second t) ∙ e)),
+          content one (λ t. deviation≢equilibrium one (gain g q one) (bestResponse g one (q two)) (sym (cond-yes a (deviationOf g q one) second t) ∙ e)),
           content two (λ t. elim (dec a) [
-            | yes u ↦ deviation≢equilibrium one (gain g q one) (bestResponse g one (q two)) (sym (cond-yes a (deviates g q one) second u) ∙ e)
-            | no n ↦ deviation≢equilibrium two (gain g q two) (bestResponse g two (q one)) (sym (cond-yes b (deviates g q two) equilibrium t) ∙ sym (cond-no a (deviates g q one) second n) ∙ e)
+            | yes u ↦ deviation≢equilibrium one (gain g q one) (bestResponse g one (q two)) (sym (cond-yes a (deviationOf g q one) second u) ∙ e)
+            | no n ↦ deviation≢equilibrium two (gain g q two) (bestResponse g two (q one)) (sym (cond-yes b (deviationOf g q two) equilibrium t) ∙ sym (cond-no a (deviationOf g q one) second n) ∙ e)
           ]),
         )
 
-        means-yes : NoProfitableDeviation g q one × NoProfitableDeviation g q two → cond a (deviates g q one) second ≡ equilibrium
+        means-yes : NoProfitableDeviation g q one × NoProfitableDeviation g q two → cond a (deviationOf g q one) second ≡ equilibrium
         means-yes c =
-            cond-no a (deviates g q one) second (λ t. gainful one (against-positive one) t (c .0))
-            ∙ cond-no b (deviates g q two) equilibrium (λ t. gainful two (against-positive two) t (c .1))
+            cond-no a (deviationOf g q one) second (λ t. gainful one (against-positive one) t (c .0))
+            ∙ cond-no b (deviationOf g q two) equilibrium (λ t. gainful two (against-positive two) t (c .1))
 
 -- the verdict on the pair of two files that are accepted
 pub files-mean : (game plan : List ℕ) → GameAccepted game → PlanFits game plan → VerdictMeans (gameOf game) (planPairOf (gameOf game) plan)

@@ -45,11 +45,11 @@ use Rattle.model.specs.calls.PlanFields.{PlanCounts, planFields, denomin
 use Rattle.model.specs.calls.PayoffTable as PayoffTable
 use Rattle.model.specs.calls.PayoffTable.{payoffRows, payoffColumns}
 use Rattle.model.specs.calls.Values as Values
-use Rattle.model.specs.calls.Values.{values}
+use Rattle.model.specs.calls.Values.{valuesCall}
 use Rattle.model.specs.calls.Verdict as Verdict
-use Rattle.model.specs.calls.Verdict.{accepted, deviates, verdict, numbers, verdictNumbers}
+use Rattle.model.specs.calls.Verdict.{accepted, deviates, verdictCall, numbers, verdictNumbers}
 use Rattle.model.specs.calls.Report as Report
-use Rattle.model.specs.calls.Report.{report}
+use Rattle.model.specs.calls.Report.{reportCall}
 use Rattle.model.specs.calls.RefusalLine as RefusalLine
 use Rattle.model.specs.calls.RefusalLine.{refusalLine}
 use Rattle.model.specs.calls.WriteGame as WriteGame
@@ -66,7 +66,7 @@ use Rattle.model.specs.calls.RereadPlan as RereadPlan
 use Rattle.model.specs.calls.RereadPlan.{rereadPlan}
 use Rattle.model.specs.Starred as Starred
 use Rattle.model.specs.Starred.{study, planM, planF, single, bare, absentMinded, row, Case, _is_, AllHold, end, _then_}
-use Rattle.model.proofs.Answers.{leaning, second, drawn}
+use Rattle.model.proofs.AllStarred.{leaning, second, drawn}
 
 -- a buffer of so many entries, 200, 201, ..: what is kept of it is seen, and where
 unfoldable lent : ℕ → List ℕ
@@ -101,8 +101,8 @@ lookUps =
     ∷ (ownSequence study 3 is outcome (refused 17) tt)
     ∷ (checkPlan study planF is outcome (given (record { d1 = 1; d2 = 2 })) tt)
     ∷ (checkPlan study bare is outcome (refused 14) tt)
-    ∷ (values study planF is outcome (given (record { value1 = pos 6; value2 = pos 6; best1 = pos 7; best2 = pos 3; d0 = 1; d1 = 1; d2 = 2 })) tt)
-    ∷ (values study bare is outcome (refused 14) tt)
+    ∷ (valuesCall study planF is outcome (given (record { value1 = pos 6; value2 = pos 6; best1 = pos 7; best2 = pos 3; d0 = 1; d1 = 1; d2 = 2 })) tt)
+    ∷ (valuesCall study bare is outcome (refused 14) tt)
     ∷ []
 
 look-ups-hold : AllHold lookUps
@@ -291,11 +291,11 @@ unfolding lent PlanFields.call WritePlan.rows WritePlan.call RewritePlan.call Re
 plans-hold = refl then refl then refl then refl then refl then refl then refl then refl then refl then refl then refl then refl then refl then refl then refl then refl then refl then refl then refl then refl then end
 
 -- so many rows, of no game here
-unfoldable lentRows : ℕ → List Table.Row
+unfoldable lentRows : ℕ → List Table.TableRow
 lentRows n = listTo n (λ i. row (200 + i) (200 + i) (negsuc i) (negsuc i))
 
 -- the starred table
-abbrev table : List Table.Row
+abbrev table : List Table.TableRow
 table = row 2 0 (pos 3) (pos 3) ∷ row 3 1 (pos 2) (pos 2) ∷ row 3 2 (pos 5) (pos 6) ∷ row 4 1 (pos 0) (pos 3) ∷ row 4 2 (pos 6) (pos 1) ∷ []
 
 -- four buffers that hold its columns, and after them what is kept
@@ -343,14 +343,14 @@ before = numbers 91 (pos 92) 93 94
 -- and nothing where the pair is accepted.
 abbrev verdicts : List Case
 verdicts =
-    (verdict study planF (lent 2) is outcome (given (deviates 1 (pos 1) 2 2)) (0 ∷ 0 ∷ [], tt))
-    ∷ (verdict study planF (lent 1) is outcome (refused 18) (lent 1, tt))
-    ∷ (verdict study leaning (lent 4) is outcome (given (deviates 1 (pos 6) 4 2)) (0 ∷ 1 ∷ 202 ∷ 203 ∷ [], tt))
-    ∷ (verdict study second (lent 1) is outcome (given (deviates 2 (pos 2) 1 1)) (0 ∷ [], tt))
-    ∷ (verdict study second [] is outcome (refused 18) ([], tt))
-    ∷ (verdict study planM [] is outcome (given (accepted 9)) ([], tt))
-    ∷ (verdict study planM (lent 3) is outcome (given (accepted 9)) (lent 3, tt))
-    ∷ (verdict study bare [] is outcome (refused 14) ([], tt))
+    (verdictCall study planF (lent 2) is outcome (given (deviates 1 (pos 1) 2 2)) (0 ∷ 0 ∷ [], tt))
+    ∷ (verdictCall study planF (lent 1) is outcome (refused 18) (lent 1, tt))
+    ∷ (verdictCall study leaning (lent 4) is outcome (given (deviates 1 (pos 6) 4 2)) (0 ∷ 1 ∷ 202 ∷ 203 ∷ [], tt))
+    ∷ (verdictCall study second (lent 1) is outcome (given (deviates 2 (pos 2) 1 1)) (0 ∷ [], tt))
+    ∷ (verdictCall study second [] is outcome (refused 18) ([], tt))
+    ∷ (verdictCall study planM [] is outcome (given (accepted 9)) ([], tt))
+    ∷ (verdictCall study planM (lent 3) is outcome (given (accepted 9)) (lent 3, tt))
+    ∷ (verdictCall study bare [] is outcome (refused 14) ([], tt))
     ∷ (verdictNumbers study planF before (lent 2) is leaves 0 (numbers 1 (pos 1) 2 2) (0 ∷ 0 ∷ [], tt))
     ∷ (verdictNumbers study planF before (lent 1) is leaves 18 before (lent 1, tt))
     ∷ (verdictNumbers study planM before [] is leaves 0 (numbers 0 (pos 0) 9 0) ([], tt))
@@ -367,10 +367,10 @@ text = ascii "value 1 5.000\nvalue 2 6.000\nbest 1 5.000\nbest 2 6.000\naccepted
 -- the two texts
 abbrev texts : List Case
 texts =
-    (report single bare (lent 63) is outcome (given 63) (text, tt))
-    ∷ (report single bare (lent 65) is outcome (given 63) (text ++ 263 ∷ 264 ∷ [], tt))
-    ∷ (report single bare (lent 62) is outcome (refused 18) (lent 62, tt))
-    ∷ (report study bare [] is outcome (refused 14) ([], tt))
+    (reportCall single bare (lent 63) is outcome (given 63) (text, tt))
+    ∷ (reportCall single bare (lent 65) is outcome (given 63) (text ++ 263 ∷ 264 ∷ [], tt))
+    ∷ (reportCall single bare (lent 62) is outcome (refused 18) (lent 62, tt))
+    ∷ (reportCall study bare [] is outcome (refused 14) ([], tt))
     ∷ (refusalLine 13 (lent 11) is outcome (given 11) (ascii "refusal 13\n", tt))
     ∷ (refusalLine 13 (lent 13) is outcome (given 11) (ascii "refusal 13\n" ++ 211 ∷ 212 ∷ [], tt))
     ∷ (refusalLine 13 (lent 10) is outcome (refused 18) (lent 10, tt))

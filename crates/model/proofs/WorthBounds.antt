@@ -9,10 +9,10 @@ use lib.ListN.{length, getD}
 use lib.Dec.{T, eqb, eqb→eq}
 use mir.Facts.{and-yes, yes-and}
 use lib.IntN.{ℤ, _+ℤ_, natAbs}
-use Rattle.algebra.specs.Bounded.{countTo, sumWhere}
+use Rattle.algebra.specs.Bounded.{totalTo, sumWhere}
 use Rattle.algebra.proofs.Tests.{dec, cond-yes, cond-no}
 use Rattle.algebra.proofs.Ranges.{abs-add, abs-where, abs-max}
-use Rattle.algebra.proofs.Counts.{only, only-le, only-most, count-cong, count-le, count-zero, count-plus, count-scale, count-swap, count-less, count-single}
+use Rattle.algebra.proofs.Totals.{only, only-le, only-most, count-cong, count-le, count-zero, count-plus, count-scale, count-swap, count-less, count-single}
 use Rattle.model.specs.Game.{Game, Player, isLeaf}
 use Rattle.model.specs.Sequences.{Sequence, extended, sameMove, same, ownSequence, leading}
 use Rattle.model.specs.Plan.{RealizationPlan}
@@ -59,7 +59,7 @@ prefix-next (x ∷ s) (y ∷ r) h m t =
 module _ (g : Game) (p : Player) where
   -- the moves after s that go on towards r
   unfoldable goingOn : (s r : Sequence) → ℕ
-  goingOn s r = countTo (g .sets) (λ h. only (leadsTo g p s h) (countTo (g .setMoves h) (λ m. only (isPrefix (extended (leading g h) h m) r) 1)))
+  goingOn s r = totalTo (g .sets) (λ h. only (leadsTo g p s h) (totalTo (g .setMoves h) (λ m. only (isPrefix (extended (leading g h) h m) r) 1)))
 
   -- there is none but where s begins r and r goes on
   none-on : (s r : Sequence) → ¬ (T (isPrefix s r) × (length s < length r)) → goingOn s r ≡ 0
@@ -78,7 +78,7 @@ module _ (g : Game) (p : Player) where
   unfolding goingOn
   one-on s r =
       let next = getD r (length s) (0, 0) in
-      count-single (g .sets) 1 (λ h. only (leadsTo g p s h) (countTo (g .setMoves h) (λ m. only (isPrefix (extended (leading g h) h m) r) 1))) (next .0)
+      count-single (g .sets) 1 (λ h. only (leadsTo g p s h) (totalTo (g .setMoves h) (λ m. only (isPrefix (extended (leading g h) h m) r) 1))) (next .0)
       (λ h l d.
       elim (dec (leadsTo g p s h)) [
         | yes t ↦ cond-yes (leadsTo g p s h) _ 0 t ∙ count-zero (g .setMoves h) _ (λ m u. cond-no {A = ℕ} (isPrefix (extended (leading g h) h m) r) 1 0 (λ z. d (at h m (leads-parts g p s h t .1) z .0)))
@@ -89,10 +89,10 @@ module _ (g : Game) (p : Player) where
       elim (dec (leadsTo g p s h)) [
         | yes t ↦ omega (
           arith,
-          only-most (leadsTo g p s h) (countTo (g .setMoves h) (λ m. only (isPrefix (extended (leading g h) h m) r) 1)),
+          only-most (leadsTo g p s h) (totalTo (g .setMoves h) (λ m. only (isPrefix (extended (leading g h) h m) r) 1)),
           count-single (g .setMoves h) 1 (λ m. only (isPrefix (extended (leading g h) h m) r) 1) (next .1) (λ m u d. cond-no {A = ℕ} (isPrefix (extended (leading g h) h m) r) 1 0 (λ z. d (at h m (leads-parts g p s h t .1) z .1))) (λ u. only-most (isPrefix (extended (leading g h) h (next .1)) r) 1),
         )
-        | no t ↦ omega (arith, cond-no (leadsTo g p s h) (countTo (g .setMoves h) (λ m. only (isPrefix (extended (leading g h) h m) r) 1)) 0 t)
+        | no t ↦ omega (arith, cond-no (leadsTo g p s h) (totalTo (g .setMoves h) (λ m. only (isPrefix (extended (leading g h) h m) r) 1)) 0 t)
       ])
     where
       at : (h m : ℕ) → leading g h ≡ s → T (isPrefix (extended (leading g h) h m) r) → (h ≡ getD r (length s) (0, 0) .0) × (m ≡ getD r (length s) (0, 0) .1)
@@ -116,11 +116,11 @@ module _ (g : Game) (p : Player) (y : RealizationPlan) where
 
   -- all leaves together
   unfoldable pub leafSizes : ℕ
-  leafSizes = countTo (g .nodes) leafSize
+  leafSizes = totalTo (g .nodes) leafSize
 
   -- the leaves at s and beyond it
   unfoldable size : Sequence → ℕ
-  size s = countTo (g .nodes) (λ n. leafSize n * only (isPrefix s (ownSequence g p n)) 1)
+  size s = totalTo (g .nodes) (λ n. leafSize n * only (isPrefix s (ownSequence g p n)) 1)
 
   size-most : (s : Sequence) → size s ≤ leafSizes
   unfolding size leafSizes
@@ -133,37 +133,37 @@ module _ (g : Game) (p : Player) (y : RealizationPlan) where
   split false b k = omega arith
 
   -- every prefix of the sum of the leaves at s
-  pub leaves-prefix : (s : Sequence) (k : ℕ) → k ≤ g .nodes → natAbs (sumWhere k (λ n. isLeaf g n && same (ownSequence g p n) s) (leafTerm g p y)) ≤ countTo (g .nodes) (λ n. leafSize n * only (same (ownSequence g p n) s) 1)
+  pub leaves-prefix : (s : Sequence) (k : ℕ) → k ≤ g .nodes → natAbs (sumWhere k (λ n. isLeaf g n && same (ownSequence g p n) s) (leafTerm g p y)) ≤ totalTo (g .nodes) (λ n. leafSize n * only (same (ownSequence g p n) s) 1)
   unfolding leafSize
   leaves-prefix s k l =
       let f : ℕ → ℕ = λ n. only (isLeaf g n && same (ownSequence g p n) s) (natAbs (leafTerm g p y n)) in
       omega (arith, abs-where k (λ n. isLeaf g n && same (ownSequence g p n) s) (leafTerm g p y), count-less (g .nodes) k f l, count-cong (g .nodes) f (λ n. leafSize n * only (same (ownSequence g p n) s) 1) (λ n v. split (isLeaf g n) (same (ownSequence g p n) s) (natAbs (leafTerm g p y n))))
 
   -- the sizes of the moves that s leads to, leaf by leaf
-  sizes-on : (s : Sequence) → countTo (g .sets) (λ h. only (leadsTo g p s h) (countTo (g .setMoves h) (λ m. size (extended (leading g h) h m)))) ≡ countTo (g .nodes) (λ n. leafSize n * goingOn g p s (ownSequence g p n))
+  sizes-on : (s : Sequence) → totalTo (g .sets) (λ h. only (leadsTo g p s h) (totalTo (g .setMoves h) (λ m. size (extended (leading g h) h m)))) ≡ totalTo (g .nodes) (λ n. leafSize n * goingOn g p s (ownSequence g p n))
   unfolding size goingOn
   sizes-on s =
       let pre : ℕ → ℕ → ℕ → ℕ = λ h m n. only (isPrefix (extended (leading g h) h m) (ownSequence g p n)) 1 in
-      count-cong (g .sets) _ (λ h. countTo (g .nodes) (λ n. leafSize n * only (leadsTo g p s h) (countTo (g .setMoves h) (λ m. pre h m n)))) (λ h l.
+      count-cong (g .sets) _ (λ h. totalTo (g .nodes) (λ n. leafSize n * only (leadsTo g p s h) (totalTo (g .setMoves h) (λ m. pre h m n)))) (λ h l.
       ap (only (leadsTo g p s h)) (count-swap (g .setMoves h) (g .nodes) (λ m n. leafSize n * pre h m n) ∙ count-cong (g .nodes) _ _ (λ n v. sym (count-scale (g .setMoves h) (leafSize n) (λ m. pre h m n))))
-      ∙ inside (leadsTo g p s h) (λ n. countTo (g .setMoves h) (λ m. pre h m n)))
-      ∙ count-swap (g .sets) (g .nodes) (λ h n. leafSize n * only (leadsTo g p s h) (countTo (g .setMoves h) (λ m. pre h m n)))
-      ∙ count-cong (g .nodes) _ _ (λ n v. sym (count-scale (g .sets) (leafSize n) (λ h. only (leadsTo g p s h) (countTo (g .setMoves h) (λ m. pre h m n)))))
+      ∙ inside (leadsTo g p s h) (λ n. totalTo (g .setMoves h) (λ m. pre h m n)))
+      ∙ count-swap (g .sets) (g .nodes) (λ h n. leafSize n * only (leadsTo g p s h) (totalTo (g .setMoves h) (λ m. pre h m n)))
+      ∙ count-cong (g .nodes) _ _ (λ n v. sym (count-scale (g .sets) (leafSize n) (λ h. only (leadsTo g p s h) (totalTo (g .setMoves h) (λ m. pre h m n)))))
     where
-      inside : (b : Bool) (f : ℕ → ℕ) → only b (countTo (g .nodes) (λ n. leafSize n * f n)) ≡ countTo (g .nodes) (λ n. leafSize n * only b (f n))
+      inside : (b : Bool) (f : ℕ → ℕ) → only b (totalTo (g .nodes) (λ n. leafSize n * f n)) ≡ totalTo (g .nodes) (λ n. leafSize n * only b (f n))
       inside true f = refl
       inside false f = sym (count-zero (g .nodes) _ (λ n v. omega arith))
 
   module _ (some : (h : ℕ) → h < g .sets → 0 < g .setMoves h) where
     -- a set's worth is no larger than its moves together
-    greatest-size : (f : Sequence → ℤ) → ((r : Sequence) → natAbs (f r) ≤ size r) → (h : ℕ) → h < g .sets → natAbs (greatestWorth g f h) ≤ countTo (g .setMoves h) (λ m. size (extended (leading g h) h m))
+    greatest-size : (f : Sequence → ℤ) → ((r : Sequence) → natAbs (f r) ≤ size r) → (h : ℕ) → h < g .sets → natAbs (greatestWorth g f h) ≤ totalTo (g .setMoves h) (λ m. size (extended (leading g h) h m))
     unfolding greatestWorth
     greatest-size f b h l =
         let w : ℕ → ℤ = λ m. f (extended (leading g h) h m) in
         let e : suc (pred (g .setMoves h)) ≡ g .setMoves h = omega (arith, some h l) in
         let a = abs-max (pred (g .setMoves h)) w in
         let c = count-le (suc (pred (g .setMoves h))) (λ m. natAbs (w m)) (λ m. size (extended (leading g h) h m)) (λ m u. b (extended (leading g h) h m)) in
-        omega (arith, a, c, ap (λ (n : ℕ). countTo n (λ m. size (extended (leading g h) h m))) e)
+        omega (arith, a, c, ap (λ (n : ℕ). totalTo n (λ m. size (extended (leading g h) h m))) e)
 
     -- a partial sum of a worth, by the sizes of the worths in it
     partial-size : (f : Sequence → ℤ) → ((r : Sequence) → natAbs (f r) ≤ size r) → (s : Sequence) (k : ℕ) → k ≤ g .sets → natAbs (leavesWorth g p y s +ℤ sumWhere k (leadsTo g p s) (greatestWorth g f)) ≤ size s
@@ -177,7 +177,7 @@ module _ (g : Game) (p : Player) (y : RealizationPlan) where
         let a1 = leaves-prefix s N (omega arith) in
         let a2 = abs-where k (leadsTo g p s) w in
         let a3 = count-less (g .sets) k (λ h. only (leadsTo g p s h) (natAbs (w h))) l in
-        let a4 = count-le (g .sets) (λ h. only (leadsTo g p s h) (natAbs (w h))) (λ h. only (leadsTo g p s h) (countTo (g .setMoves h) (λ m. size (extended (leading g h) h m)))) (λ h v. only-le (leadsTo g p s h) _ _ (λ t. greatest-size f b h v)) in
+        let a4 = count-le (g .sets) (λ h. only (leadsTo g p s h) (natAbs (w h))) (λ h. only (leadsTo g p s h) (totalTo (g .setMoves h) (λ m. size (extended (leading g h) h m)))) (λ h v. only-le (leadsTo g p s h) _ _ (λ t. greatest-size f b h v)) in
         let a5 = sizes-on s in
         let a6 = count-plus N same-at on in
         let a7 = count-le N (λ n. same-at n + on n) (λ n. leafSize n * only (isPrefix s (ownSequence g p n)) 1) (λ n v. omega (arith, NatL.mul-add (leafSize n) (only (same (ownSequence g p n) s) 1) (goingOn g p s (ownSequence g p n)), NatL.mul-le-mul-left (leafSize n) (met-once g p s (ownSequence g p n)))) in

@@ -6,8 +6,8 @@ use lib.ListN.{length}
 use lib.Dec.{T}
 use mir.Facts.{and-yes}
 use lib.IntN.{ℤ, pos, _+ℤ_}
-use Rattle.algebra.specs.Bounded.{sumWhere, maxUpTo}
-use Rattle.algebra.proofs.Searches.{maxUpTo-cong}
+use Rattle.algebra.specs.Bounded.{sumWhere, maxThrough}
+use Rattle.algebra.proofs.Searches.{maxThrough-cong}
 use Rattle.algebra.proofs.Sums.{where-cong, where-none}
 use Rattle.model.specs.Game.{Game, Player, owns, isLeaf}
 use Rattle.model.specs.Sequences.{Sequence, extended, same, ownSequence, leading}
@@ -27,7 +27,7 @@ leads-parts g p s h t =
 -- a set's worth goes by the worths of its moves
 pub greatest-cong : (g : Game) (f k : Sequence → ℤ) (h : ℕ) → ((m : ℕ) → f (extended (leading g h) h m) ≡ k (extended (leading g h) h m)) → greatestWorth g f h ≡ greatestWorth g k h
 unfolding greatestWorth
-greatest-cong g f k h e = maxUpTo-cong (pred (g .setMoves h)) _ _ (λ m l. e m)
+greatest-cong g f k h e = maxThrough-cong (pred (g .setMoves h)) _ _ (λ m l. e m)
 
 module _ (g : Game) (R : GameRules g) (p : Player) (y : RealizationPlan) where
   -- no leaf stands at a sequence that has as many moves as there are nodes
@@ -60,6 +60,6 @@ module _ (g : Game) (R : GameRules g) (p : Player) (y : RealizationPlan) where
   worth-sequence s = sym (stable (g .nodes) s (omega arith))
 
 -- "A set is worth its worthiest move."
-pub worth-set : (g : Game) (p : Player) (y : RealizationPlan) (h : ℕ) → setWorth g p y h ≡ maxUpTo (pred (g .setMoves h)) (λ m. worth g p y (extended (leading g h) h m))
+pub worth-set : (g : Game) (p : Player) (y : RealizationPlan) (h : ℕ) → setWorth g p y h ≡ maxThrough (pred (g .setMoves h)) (λ m. worth g p y (extended (leading g h) h m))
 unfolding setWorth greatestWorth
 worth-set g p y h = refl

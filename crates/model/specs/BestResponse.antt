@@ -5,7 +5,7 @@ use mathlib.Core.Bool.{Bool, _&&_, cond}
 use mathlib.Core.List.{List, [], _∷_}
 use lib.IntN.{ℤ, pos, _+ℤ_}
 use lib.Signed.{leZ}
-use Rattle.algebra.specs.Bounded.{sumWhere, maxUpTo, firstTo, joinTo}
+use Rattle.algebra.specs.Bounded.{sumWhere, maxThrough, firstTo, joinTo}
 use Rattle.model.specs.Game.{Game, Player, owns, isLeaf}
 use Rattle.model.specs.Sequences.{Move, Sequence, extended, same, ownSequence, leading}
 use Rattle.model.specs.Plan.{RealizationPlan}
@@ -17,7 +17,7 @@ leadsTo g p s h = owns g p h && same (leading g h) s
 
 -- "A set is worth its worthiest move": the greatest worth of its moves, by the worth of sequences
 unfoldable pub greatestWorth : Game → (Sequence → ℤ) → ℕ → ℤ
-greatestWorth g worthOf h = maxUpTo (pred (g .setMoves h)) (λ m. worthOf (extended (leading g h) h m))
+greatestWorth g worthOf h = maxThrough (pred (g .setMoves h)) (λ m. worthOf (extended (leading g h) h m))
 
 -- Player p against the other's realization plan y.
 module _ (g : Game) (p : Player) (y : RealizationPlan) where
@@ -45,7 +45,7 @@ module _ (g : Game) (p : Player) (y : RealizationPlan) where
 
   -- the best value as a fraction
   unfoldable pub bestValue : Fraction
-  bestValue = record { count = bestCount; base = againstBase g y }
+  bestValue = record { numerator = bestCount; denominator = againstBase g y }
 
   -- "the lowest-numbered worthiest move" of set h
   unfoldable pub bestMove : ℕ → ℕ

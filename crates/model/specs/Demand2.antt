@@ -7,12 +7,12 @@ use mathlib.Core.List.{List, [], _∷_}
 use lib.ListN.{length, getD}
 use lib.Dec.{T}
 use lib.IntN.{ℤ, pos, _+ℤ_, _*ℤ_}
-use Rattle.algebra.specs.Bounded.{sumWhere, maxUpTo, joinTo, listTo}
+use Rattle.algebra.specs.Bounded.{sumWhere, maxThrough, joinTo, listTo}
 use Rattle.model.specs.Game.{Game, gameOf, Player, one, two, other, owns, inSet, isLeaf}
 use Rattle.model.specs.Sequences.{Sequence, extended, acts, ownSequence, leading, leadingNumber, sequenceCount}
 use Rattle.model.specs.Plan.{RealizationPlan, PlanPair, sequenceWeight, Fits, planPairOf, planWeights}
 use Rattle.model.specs.PlanChecks.{files}
-use Rattle.model.specs.Table.{Row, ownNumber, pairSum, payoffTable}
+use Rattle.model.specs.Table.{TableRow, ownNumber, pairSum, payoffTable}
 use Rattle.model.specs.Earnings.{_over_, AtMost, PureStrategy, MixedStrategy, listed, IsPure, IsMixed, pureEarnings, mixedEarnings, planEarnings, baseOf, valueCount, value}
 use Rattle.model.specs.BestResponse.{leadsTo, leavesWorth, worth, setWorth, bestCount, bestValue, bestResponse}
 use Rattle.model.specs.Writing as Writing
@@ -20,7 +20,7 @@ use Rattle.model.specs.Writing.{GameFields, fieldsOf, gameBytes, planByt
 use Rattle.model.specs.Rules.{GameFile, GoodFiles, FieldsFit, PlanFieldsFit}
 use Rattle.model.specs.Call.{given, Buffers, Outcome}
 use Rattle.model.specs.calls.OwnSequence as OwnSequence
-use Rattle.model.specs.calls.Values.{PairValues, values}
+use Rattle.model.specs.calls.Values.{PairValues, valuesCall}
 use Rattle.model.specs.calls.GameFields.{shape, gameFields}
 use Rattle.model.specs.calls.PlanFields.{planFields}
 use Rattle.model.specs.calls.WriteGame.{writeGame}
@@ -32,12 +32,12 @@ use Rattle.model.specs.calls.RereadPlan.{rereadPlan}
 use Rattle.model.specs.Prices.{Theorem266}
 
 -- a player's sum in a row
-abbrev pub sumOf : Player → Row → ℤ
+abbrev pub sumOf : Player → TableRow → ℤ
 sumOf one r = r .sum1
 sumOf two r = r .sum2
 
 -- "The table gives the same sum": the rows' sums, each times the weights x and y of its two sequences
-unfoldable pub tableSum : Player → (x y : ℕ → ℕ) → List Row → ℤ
+unfoldable pub tableSum : Player → (x y : ℕ → ℕ) → List TableRow → ℤ
 tableSum p x y [] = pos 0
 tableSum p x y (r ∷ rows) = pos (x (r .sequence1) * y (r .sequence2)) *ℤ sumOf p r +ℤ tableSum p x y rows
 
@@ -58,7 +58,7 @@ unfoldable pub numberWeight : Game → Player → RealizationPlan → ℕ → �
 numberWeight g p x k = sequenceWeight x (sequenceAt g p k)
 
 -- row i of the payoff table, from 0
-unfoldable pub tableRow : Game → ℕ → Row
+unfoldable pub tableRow : Game → ℕ → TableRow
 tableRow g i = getD (payoffTable g) i (record { sequence1 = 0; sequence2 = 0; sum1 = pos 0; sum2 = pos 0 })
 
 -- the table has a row of player 1's sequence s and player 2's sequence t
@@ -70,7 +70,7 @@ abbrev pub HasLeaf : Game → (s t : ℕ) → Type 0
 HasLeaf g s t = (n : ℕ) × (n < g .nodes) × T (isLeaf g n) × (ownNumber g one n ≡ s) × (ownNumber g two n ≡ t)
 
 -- the order of rows: "by player 1's sequence, then player 2's"
-abbrev pub Before : Row → Row → Type 0
+abbrev pub Before : TableRow → TableRow → Type 0
 Before r q = (r .sequence1 < q .sequence1) ⊎ ((r .sequence1 ≡ q .sequence1) × (r .sequence2 < q .sequence2))
 
 -- The sequence form (von Stengel 1996) of an accepted game: its sequences and its payoff table.
@@ -102,7 +102,7 @@ pub record PairForm (g : Game) (q : PlanPair) : Type 0 where
   -- "a sequence is worth the chance weight × other's plan weight × payoff of the leaves at that very sequence, plus the worth of each own set it leads to"
   pub worth-sequence : (p : Player) (s : Sequence) → worth g p (q (other p)) s ≡ leavesWorth g p (q (other p)) s +ℤ sumWhere (g .sets) (leadsTo g p s) (setWorth g p (q (other p)))
   -- "A set is worth its worthiest move."
-  pub worth-set : (p : Player) (h : ℕ) → setWorth g p (q (other p)) h ≡ maxUpTo (pred (g .setMoves h)) (λ m. worth g p (q (other p)) (extended (leading g h) h m))
+  pub worth-set : (p : Player) (h : ℕ) → setWorth g p (q (other p)) h ≡ maxThrough (pred (g .setMoves h)) (λ m. worth g p (q (other p)) (extended (leading g h) h m))
   -- "The empty sequence's worth is the best value."
   pub best : (p : Player) → bestCount g p (q (other p)) ≡ worth g p (q (other p)) []
   -- no strategy, pure or mixed, and no plan that fits earns more than the best value
@@ -120,14 +120,14 @@ GivesLeading game set o =
     → set < g .sets
     → (number : ℕ) × (o .answer ≡ given number) × IsNumber g (g .setPlayer set) number (leading g set)
 
--- Values and best values as `values` gives them: "over D0 × D1 × D2", and "over D0 × the other's D".
+-- Values and best values as `valuesCall` gives them: "over D0 × D1 × D2", and "over D0 × the other's D".
 pub record AreValues (g : Game) (q : PlanPair) (v : PairValues) : Type 0 where
   pub value-one : v .value1 over baseOf (v .d0) (v .d1) (v .d2) ≡ value g q one
   pub value-two : v .value2 over baseOf (v .d0) (v .d1) (v .d2) ≡ value g q two
   pub best-one : v .best1 over (v .d0 * v .d2) ≡ bestValue g one (q two)
   pub best-two : v .best2 over (v .d0 * v .d1) ≡ bestValue g two (q one)
 
--- what `values` gives for an accepted game and a pair that fits it
+-- what `valuesCall` gives for an accepted game and a pair that fits it
 abbrev pub GivesValues : (game plan : List ℕ) → Outcome [] PairValues → Type 0
 GivesValues game plan o =
     GoodFiles (files game plan)
@@ -153,7 +153,7 @@ pub record Demand2 : Type 0 where
   pub pair : (game plan : List ℕ) → GoodFiles (files game plan) → PairForm (gameOf game) (planPairOf (gameOf game) plan)
   -- "computed without loss": calls give them exactly
   pub own-sequence : (game : List ℕ) (set : ℕ) → GivesLeading game set (OwnSequence.ownSequence game set)
-  pub values : (game plan : List ℕ) → GivesValues game plan (values game plan)
+  pub values : (game plan : List ℕ) → GivesValues game plan (valuesCall game plan)
   -- "document 003, Theorem 2.66, decides"
   pub theorem266 : Theorem266
   -- files and fields, there and back

@@ -7,6 +7,7 @@ use lib.Dec.{T}
 use lib.ListN.{length}
 use lib.IntN.{ℤ, pos}
 use lib.Signed.{_≤ℤ_, _<ℤ_}
+use Rattle.algebra.specs.Arrays.{item}
 use Rattle.algebra.specs.Bounded.{listTo}
 use Rattle.model.specs.Game.{Game, gameOf, Player, one, two, other, owns, playerOf, playerNumber}
 use Rattle.model.specs.Sequences.{Move, extended, leading}
@@ -14,25 +15,24 @@ use Rattle.model.specs.Plan.{PlanPair, planPairOf}
 use Rattle.model.specs.PlanChecks.{files}
 use Rattle.model.specs.Earnings.{AtMost, Equal, minus, PureStrategy, MixedStrategy, listed, IsPure, IsMixed, setsOf, pureEarnings, mixedEarnings, planEarnings, valueBase}
 use Rattle.model.specs.BestResponse.{worth}
-use Rattle.model.specs.Writing.{entry}
 use Rattle.model.specs.Rules.{GoodFiles}
 use Rattle.model.specs.Call.{given, Outcome}
 use Rattle.model.specs.Exported.{Exported}
-use Rattle.model.specs.calls.Verdict.{Stated, accepted, deviates, movesOf, verdict, Numbers, verdictNumbers}
+use Rattle.model.specs.calls.Verdict.{Stated, accepted, deviates, movesOf, verdictCall, Numbers, verdictNumbers}
 
 -- p's sets, rising, each with the buffer's entry at its place
 unfoldable pub strategyIn : Game → Player → (buffer : List ℕ) → List Move
-strategyIn g p buffer = listTo (length (setsOf g p)) (λ i. (entry (setsOf g p) i, entry buffer i))
+strategyIn g p buffer = listTo (length (setsOf g p)) (λ i. (item (setsOf g p) i, item buffer i))
 
 -- the pair is accepted
 abbrev pub IsAccepted : Stated → Type 0
 IsAccepted (accepted base) = Unit {0}
-IsAccepted (deviates player gain base sets) = ⊥
+IsAccepted (deviates number gain base sets) = ⊥
 
 -- the base that is stated
 abbrev pub statedBase : Stated → ℕ
 statedBase (accepted base) = base
-statedBase (deviates player gain base sets) = base
+statedBase (deviates number gain base sets) = base
 
 -- There are strategies to speak of: "one move for each of his sets", and mixed ones "by whole-number weights of any size, not all 0".
 pub record StrategiesExist (g : Game) : Type 0 where
@@ -66,7 +66,7 @@ module _ (g : Game) (q : PlanPair) where
     -- "the lowest-numbered worthiest move"
     pub worthiest : (h : ℕ) → h < g .sets → T (owns g p h) → LowestBest p h (listed moves h)
     -- "that strategy earns its player, against the other's plan, exactly the stated gain more than his own plan does"
-    pub exact : Equal (record { count = gain; base = base }) (minus (pureEarnings g p (q (other p)) (listed moves)) (planEarnings g p (q (other p)) (q p)))
+    pub exact : Equal (record { numerator = gain; denominator = base }) (minus (pureEarnings g p (q (other p)) (listed moves)) (planEarnings g p (q (other p)) (q p)))
     -- "that gain is above zero"
     pub above : pos 0 <ℤ gain
     -- "every other strategy of that player, pure .. earns at most as much as the one shown"
@@ -77,24 +77,24 @@ module _ (g : Game) (q : PlanPair) where
   -- every base that a fraction above is compared over is above 0
   pub record BasesPositive : Type 0 where
     pub values : 0 < valueBase g q
-    pub pures : (p : Player) (σ : PureStrategy) → 0 < pureEarnings g p (q (other p)) σ .base
-    pub plans : (p : Player) → 0 < planEarnings g p (q (other p)) (q p) .base
-    pub mixed : (p : Player) (μ : MixedStrategy) → IsMixed g p μ → 0 < mixedEarnings g p (q (other p)) μ .base
+    pub pures : (p : Player) (σ : PureStrategy) → 0 < pureEarnings g p (q (other p)) σ .denominator
+    pub plans : (p : Player) → 0 < planEarnings g p (q (other p)) (q p) .denominator
+    pub mixed : (p : Player) (μ : MixedStrategy) → IsMixed g p μ → 0 < mixedEarnings g p (q (other p)) μ .denominator
 
   -- What is true of a stated deviation, with the strategy in the buffer.
-  pub record Shows (player : ℕ) (gain : ℤ) (base sets : ℕ) (p : Player) (buffer : List ℕ) : Type 0 where
+  pub record Shows (number : ℕ) (gain : ℤ) (base sets : ℕ) (p : Player) (buffer : List ℕ) : Type 0 where
     -- its player is 1 or 2
-    pub named : player ≡ playerNumber p
+    pub named : number ≡ playerNumber p
     -- it covers every set of his, and the buffer has all of it
     pub counted : sets ≡ length (setsOf g p)
     pub inBuffer : sets ≤ length buffer
     -- with these moves it is what demand 3 says, field by field
-    pub deviates : Deviates p gain base (strategyIn g p buffer)
+    pub deviation : Deviates p gain base (strategyIn g p buffer)
 
   -- what is stated is true
   abbrev pub Means : Stated → (buffer : List ℕ) → Type 0
   Means (accepted base) buffer = Unit {0}
-  Means (deviates player gain base sets) buffer = Shows player gain base sets (playerOf (pred player)) buffer
+  Means (deviates number gain base sets) buffer = Shows number gain base sets (playerOf (pred number)) buffer
 
   -- what an answer and the buffer beside it mean
   pub record Judged (answer : Stated) (buffer : List ℕ) : Type 0 where
@@ -116,7 +116,7 @@ Demand3Met game plan moves o =
     → (answer : Stated) × (o .answer ≡ given answer) × Judged (gameOf game) (planPairOf (gameOf game) plan) answer (o .buffers .0)
 
 -- what a verdict in numbers states: player 0 that the pair is accepted
-abbrev pub statedBy : (player : ℕ) → (gain : ℤ) → (base count : ℕ) → Stated
+abbrev pub statedBy : (number : ℕ) → (gain : ℤ) → (base count : ℕ) → Stated
 statedBy zero gain base count = accepted base
 statedBy (suc n) gain base count = deviates (suc n) gain base count
 
@@ -126,8 +126,8 @@ Demand3MetIn game plan moves x =
     let n = x .numbers in
     GoodFiles (files game plan)
     → length (movesOf (files game plan)) ≤ length moves
-    → (x .refusal ≡ 0) × Judged (gameOf game) (planPairOf (gameOf game) plan) (statedBy (n .player) (n .gain) (n .base) (n .count)) (x .buffers .0)
+    → (x .refusal ≡ 0) × Judged (gameOf game) (planPairOf (gameOf game) plan) (statedBy (n .number) (n .gain) (n .base) (n .count)) (x .buffers .0)
 
 pub record Demand3 : Type 0 where
-  pub verdict : (game plan moves : List ℕ) → Demand3Met game plan moves (verdict game plan moves)
+  pub verdict : (game plan moves : List ℕ) → Demand3Met game plan moves (verdictCall game plan moves)
   pub numbers : (game plan : List ℕ) (before : Numbers) (moves : List ℕ) → Demand3MetIn game plan moves (verdictNumbers game plan before moves)

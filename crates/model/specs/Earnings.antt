@@ -12,29 +12,29 @@ use Rattle.model.specs.Game.{Game, Player, one, two, other, owns, isLeaf
 use Rattle.model.specs.Sequences.{Move, Sequence, ownSequence}
 use Rattle.model.specs.Plan.{RealizationPlan, PlanPair, weightAt}
 
--- An exact fraction, `count` its numerator and `base` its denominator. For accepted files every base is above 0 (Demand3, `BasesPositive`).
+-- An exact fraction: a count over a base. For accepted files every base is above 0 (Demand3, `BasesPositive`).
 pub record Fraction : Type 0 where
-  pub count : ℤ
-  pub base : ℕ
+  pub numerator : ℤ
+  pub denominator : ℕ
 
 -- as in "36 over 9"
 infix 6 _over_
 abbrev pub _over_ : ℤ → ℕ → Fraction
-_over_ count base = record { count = count; base = base }
+_over_ count base = record { numerator = count; denominator = base }
 
 -- "All are compared as exact fractions": by cross-multiplication
 abbrev pub AtMost : Fraction → Fraction → Type 0
-AtMost a b = (pos (b .base) *ℤ a .count) ≤ℤ (pos (a .base) *ℤ b .count)
+AtMost a b = (pos (b .denominator) *ℤ a .numerator) ≤ℤ (pos (a .denominator) *ℤ b .numerator)
 
 -- the two fractions are the same
 abbrev pub Equal : Fraction → Fraction → Type 0
-Equal a b = pos (b .base) *ℤ a .count ≡ pos (a .base) *ℤ b .count
+Equal a b = pos (b .denominator) *ℤ a .numerator ≡ pos (a .denominator) *ℤ b .numerator
 
 -- the first less the second
 abbrev pub minus : Fraction → Fraction → Fraction
 minus a b = record {
-  count = pos (b .base) *ℤ a .count -ℤ pos (a .base) *ℤ b .count;
-  base = a .base * b .base;
+  numerator = pos (b .denominator) *ℤ a .numerator -ℤ pos (a .denominator) *ℤ b .numerator;
+  denominator = a .denominator * b .denominator;
 }
 
 -- "A pure strategy is one move for each of his sets": what it says at the other player's sets counts for nothing.
@@ -94,7 +94,7 @@ module _ (g : Game) (p : Player) (y : RealizationPlan) where
 
   -- what a pure strategy earns
   unfoldable pub pureEarnings : PureStrategy → Fraction
-  pureEarnings σ = record { count = pureCount σ; base = againstBase g y }
+  pureEarnings σ = record { numerator = pureCount σ; denominator = againstBase g y }
 
   -- "earns the sum of weight × earnings, divided by the sum of the weights"
   unfoldable pub mixedCount : MixedStrategy → ℤ
@@ -103,7 +103,7 @@ module _ (g : Game) (p : Player) (y : RealizationPlan) where
 
   -- what a mixed strategy earns
   unfoldable pub mixedEarnings : MixedStrategy → Fraction
-  mixedEarnings μ = record { count = mixedCount μ; base = totalWeight μ * againstBase g y }
+  mixedEarnings μ = record { numerator = mixedCount μ; denominator = totalWeight μ * againstBase g y }
 
   -- what a realization plan x of p earns, before it is divided: each leaf counts with the weight of p's own sequence to it
   unfoldable pub planCount : RealizationPlan → ℤ
@@ -111,7 +111,7 @@ module _ (g : Game) (p : Player) (y : RealizationPlan) where
 
   -- what a realization plan earns
   unfoldable pub planEarnings : RealizationPlan → Fraction
-  planEarnings x = record { count = planCount x; base = x .denominator * againstBase g y }
+  planEarnings x = record { numerator = planCount x; denominator = x .denominator * againstBase g y }
 
 -- D0 × D1 × D2
 abbrev pub baseOf : (d0 d1 d2 : ℕ) → ℕ
@@ -132,7 +132,7 @@ module _ (g : Game) (q : PlanPair) where
 
   -- "Value of player i: the sum over leaves .., over D0 × D1 × D2."
   unfoldable pub value : Player → Fraction
-  value p = record { count = valueCount p; base = valueBase }
+  value p = record { numerator = valueCount p; denominator = valueBase }
 
 -- To unfold this is to unfold all of this file that computes: for closed computation.
 unfoldable pub opened : Unit {0}

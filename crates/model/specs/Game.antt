@@ -1,10 +1,10 @@
--- Document 01, "The two files": a game file as a game. All that follows speaks of `Game`, and of no byte.
+-- Document 01, "The two files": a game file as a game. Of bytes speak, after this, only the tests of header, length and zero bits, the plan's decoder and the writers; all else speaks of `Game`.
 use Prim.Native.Nat.{ℕ, zero, suc, _+_, _*_}
 use mathlib.Core.Bool.{Bool, true, false, _&&_, cond}
 use mathlib.Core.List.{List}
 use lib.Dec.{eqb}
 use lib.IntN.{ℤ}
-use Rattle.algebra.specs.Bounded.{countTo}
+use Rattle.algebra.specs.Bounded.{totalTo}
 use Rattle.model.specs.Bits.{field, signed}
 
 -- player 1 and player 2
@@ -111,7 +111,7 @@ module _ (g : Game) where
 
   -- how many moves p's sets below h have together
   unfoldable pub movesBefore : Player → ℕ → ℕ
-  movesBefore p h = countTo h (λ k. cond (owns p k) (g .setMoves k) 0)
+  movesBefore p h = totalTo h (λ k. cond (owns p k) (g .setMoves k) 0)
 
 -- To unfold this is to unfold all of this file: for closed computation.
 unfoldable pub opened : Unit {0}

@@ -4,7 +4,7 @@ use mathlib.Core.Bool.{Bool, _&&_, not, cond}
 use mathlib.Core.List.{List}
 use lib.ListN.{length}
 use lib.Dec.{eqb, ltb, leb}
-use Rattle.algebra.specs.Bounded.{countTo, allTo, anyTo, implies}
+use Rattle.algebra.specs.Bounded.{totalTo, allTo, anyTo, implies}
 use Rattle.model.specs.Bits.{field}
 use Rattle.model.specs.Game.{Game, gameOf, nodeAt, isLeaf, isDecision, isChance, inSet, nodeMoves}
 use Rattle.model.specs.Sequences.{ownSequence, same}
@@ -89,7 +89,7 @@ module _ (g : Game) where
 
   -- the weights of node n's children, added up
   unfoldable pub childrenWeight : ℕ → ℕ
-  childrenWeight n = countTo (g .nodes) (λ c. cond (ltb 0 c && eqb (g .parent c) n) (g .weight c) 0)
+  childrenWeight n = totalTo (g .nodes) (λ c. cond (ltb 0 c && eqb (g .parent c) n) (g .weight c) 0)
 
   -- "Node 0 is the root: .. weight D0." "A decision's child has its parent's weight"
   unfoldable pub weightInherited : ℕ → Bool

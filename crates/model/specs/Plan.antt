@@ -5,7 +5,7 @@ use mathlib.Core.Path.{_≡_}
 use mathlib.Core.Bool.{Bool, _&&_}
 use mathlib.Core.List.{List}
 use lib.Dec.{T, eqb}
-use Rattle.algebra.specs.Bounded.{countTo, allTo, implies}
+use Rattle.algebra.specs.Bounded.{totalTo, allTo, implies}
 use Rattle.model.specs.Bits.{field, fields}
 use Rattle.model.specs.Game.{Game, Player, one, two, owns, movesBefore}
 use Rattle.model.specs.Sequences.{Sequence, byLastMove, ownSequence, leading}
@@ -30,7 +30,7 @@ module _ (g : Game) where
 
   -- at set h "the move weights add up to the weight of the own sequence leading to the set"
   unfoldable pub balanced : RealizationPlan → ℕ → Bool
-  balanced x h = eqb (countTo (g .setMoves h) (x .moveWeight h)) (sequenceWeight x (leading g h))
+  balanced x h = eqb (totalTo (g .setMoves h) (x .moveWeight h)) (sequenceWeight x (leading g h))
 
   -- "A plan fits when, in each set, .." : p's plan, in each of p's sets
   unfoldable pub fits : Player → RealizationPlan → Bool
@@ -42,7 +42,7 @@ module _ (g : Game) where
 
 -- "A plan fits when, in each set, the move weights add up to the weight of the own sequence leading to the set": p's plan, as a proposition
 abbrev pub Fits : Game → Player → RealizationPlan → Type 0
-Fits g p x = (h : ℕ) → h < g .sets → T (owns g p h) → countTo (g .setMoves h) (x .moveWeight h) ≡ sequenceWeight x (leading g h)
+Fits g p x = (h : ℕ) → h < g .sets → T (owns g p h) → totalTo (g .setMoves h) (x .moveWeight h) ≡ sequenceWeight x (leading g h)
 
 -- Plan file. Header, 32 bits: edition (4), D1 (12), D2 (12), four zero bits. Then 12 bits for each move of each set.
 -- where a player's denominator begins

@@ -4,7 +4,7 @@ use mathlib.Core.Path.{_≡_}
 use mathlib.Core.Logic.{_⊎_}
 use mathlib.Core.List.{List}
 use lib.Dec.{T}
-use Rattle.algebra.specs.Bounded.{countTo}
+use Rattle.algebra.specs.Bounded.{totalTo}
 use Rattle.model.specs.Bits.{field}
 use Rattle.model.specs.Game.{Game, gameOf, nodeAt, Player, one, two, owns, inSet, nodeMoves}
 use Rattle.model.specs.Sequences.{ownSequence, leading}
@@ -73,7 +73,7 @@ module _ (g : Game) where
 
   -- in p's set h the move weights do not "add up to the weight of the own sequence leading to the set"
   abbrev pub Unbalanced : PlanPair → Player → ℕ → Type 0
-  Unbalanced q p h = (h < g .sets) × T (owns g p h) × ¬ (countTo (g .setMoves h) (q p .moveWeight h) ≡ sequenceWeight (q p) (leading g h))
+  Unbalanced q p h = (h < g .sets) × T (owns g p h) × ¬ (totalTo (g .setMoves h) (q p .moveWeight h) ≡ sequenceWeight (q p) (leading g h))
 
 -- "Its edition is not 1, D1 or D2 is zero, or a filling or header zero bit is one."
 abbrev pub PlanIllFormed : Game → (plan : List ℕ) → Type 0

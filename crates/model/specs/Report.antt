@@ -8,6 +8,7 @@ use mathlib.Core.List.{List, [], _∷_, _++_, flatMap}
 use lib.Dec.{eqb, ltb}
 use lib.IntN.{ℤ, natAbs}
 use lib.Signed.{nonNeg}
+use Rattle.model.specs.Limits.{countLimit}
 use Rattle.model.specs.Game.{Game, gameOf, Player, one, two, other, playerNumber}
 use Rattle.model.specs.Sequences.{Move}
 use Rattle.model.specs.Plan.{PlanPair, planPairOf}
@@ -38,7 +39,7 @@ signedDecimal negative size = cond negative (ascii "-") [] ++ decimal size
 
 -- an amount in thousandths "cut towards zero", as a size
 unfoldable pub thousandths : Fraction → ℕ
-thousandths a = natAbs (a .count) * 1000 / a .base
+thousandths a = natAbs (a .numerator) * 1000 / a .denominator
 
 -- the last three digits of a size in thousandths
 unfoldable pub lastThree : ℕ → List ℕ
@@ -46,7 +47,7 @@ lastThree t = (48 + t / 100 % 10) ∷ (48 + t / 10 % 10) ∷ (48 + t % 10) ∷ [
 
 -- "`-` only where a shown digit is not 0"
 unfoldable pub showsMinus : Fraction → Bool
-showsMinus a = not (nonNeg (a .count)) && ltb 0 (thousandths a)
+showsMinus a = not (nonNeg (a .numerator)) && ltb 0 (thousandths a)
 
 -- "Amounts are divided out and shown in thousandths cut towards zero"
 unfoldable pub amount : Fraction → List ℕ
@@ -71,7 +72,7 @@ module _ (g : Game) (q : PlanPair) where
 
   -- the gain over D0 × D1 × D2
   unfoldable pub gainAmount : ℤ → Fraction
-  gainAmount z = record { count = z; base = valueBase g q }
+  gainAmount z = record { numerator = z; denominator = valueBase g q }
 
   -- "then `accepted`, or the deviation with its player, its gain and one line per set of that player, rising"
   unfoldable pub verdictLines : Verdict → List ℕ
@@ -94,7 +95,7 @@ reportOf game plan = report (gameOf game) (planPairOf (gameOf game) plan)
 
 -- The length of the longest game file that can be accepted: "5 + H + 8N bytes", and N and H have 12 bits each.
 unfoldable pub longestGame : ℕ
-longestGame = 5 + 4095 + 8 * 4095
+longestGame = 5 + countLimit + 8 * countLimit
 
 -- Of the longest plan file: "4 bytes plus 12 bits for each move of each set, filled to a byte". The sets of an accepted
 -- game have fewer moves than it has nodes, so 4,094 at most.

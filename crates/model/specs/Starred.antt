@@ -7,7 +7,7 @@ use lib.IntN.{ℤ, pos}
 use Rattle.model.specs.Game.{gameOf, one, two}
 use Rattle.model.specs.Checks.{gameRefusal, pairRefusal}
 use Rattle.model.specs.Plan.{planPairOf}
-use Rattle.model.specs.Table.{Row, payoffTable}
+use Rattle.model.specs.Table.{TableRow, payoffTable}
 use Rattle.model.specs.Earnings.{Fraction, _over_, value}
 use Rattle.model.specs.BestResponse.{bestValue}
 use Rattle.model.specs.Verdict.{Verdict, equilibrium, deviation, verdict}
@@ -120,7 +120,7 @@ unfoldable pub absentMinded : List ℕ
 absentMinded = gameFile 1 (0 ∷ []) (1 ∷ []) (decision 0 0 1 0 ∷ decision 0 0 1 0 ∷ leaf 1 0 1 (pos 0) (pos 0) ∷ [])
 
 -- what comes of a pair of files: the refusal, both values, both best values, and the verdict
-pub record Outcome : Type 0 where
+pub record PairResult : Type 0 where
   pub refusal : ℕ
   pub value1 : Fraction
   pub value2 : Fraction
@@ -129,8 +129,8 @@ pub record Outcome : Type 0 where
   pub answer : Verdict
 
 -- what the definitions give for a pair of files
-unfoldable pub outcome : (game plan : List ℕ) → Outcome
-outcome game plan =
+unfoldable pub pairResult : (game plan : List ℕ) → PairResult
+pairResult game plan =
     let g = gameOf game in
     let q = planPairOf g plan in
     record {
@@ -143,11 +143,11 @@ outcome game plan =
     }
 
 -- a row of the payoff table
-abbrev pub row : (s t : ℕ) → (a b : ℤ) → Row
+abbrev pub row : (s t : ℕ) → (a b : ℤ) → TableRow
 row s t a b = record { sequence1 = s; sequence2 = t; sum1 = a; sum2 = b }
 
 -- two files that fit: values, best values and the verdict
-abbrev pub fitting : (value1 value2 best1 best2 : Fraction) → Verdict → Outcome
+abbrev pub fitting : (value1 value2 best1 best2 : Fraction) → Verdict → PairResult
 fitting v1 v2 b1 b2 a = record { refusal = 0; value1 = v1; value2 = v2; best1 = b1; best2 = b2; answer = a }
 
 -- A case: what the definitions give, and what the document says.
@@ -170,17 +170,17 @@ starred =
     ∷ (take 8 (drop 72 study) is 0x00 ∷ 0x10 ∷ 0x10 ∷ 0x01 ∷ 0x00 ∷ 0x06 ∷ 0x00 ∷ 0x01 ∷ [])
     ∷ (payoffTable (gameOf study) is row 2 0 (pos 3) (pos 3) ∷ row 3 1 (pos 2) (pos 2) ∷ row 3 2 (pos 5) (pos 6) ∷ row 4 1 (pos 0) (pos 3) ∷ row 4 2 (pos 6) (pos 1) ∷ [])
     ∷ (planM is 0x10 ∷ 0x03 ∷ 0x00 ∷ 0x30 ∷ 0x00 ∷ 0x30 ∷ 0x00 ∷ 0x00 ∷ 0x10 ∷ 0x02 ∷ 0x00 ∷ 0x10 ∷ 0x02 ∷ [])
-    ∷ (outcome study planM is fitting (pos 36 over 9) (pos 24 over 9) (pos 12 over 3) (pos 8 over 3) equilibrium)
-    ∷ (outcome study planQ is fitting (pos 3 over 1) (pos 3 over 1) (pos 3 over 1) (pos 3 over 1) equilibrium)
-    ∷ (outcome study planF is fitting (pos 6 over 2) (pos 6 over 2) (pos 7 over 2) (pos 3 over 1) (deviation one (pos 1) ((0, 0) ∷ (2, 0) ∷ [])))
-    ∷ (outcome study planMixed is fitting (pos 9 over 3) (pos 9 over 3) (pos 9 over 3) (pos 3 over 1) equilibrium)
+    ∷ (pairResult study planM is fitting (pos 36 over 9) (pos 24 over 9) (pos 12 over 3) (pos 8 over 3) equilibrium)
+    ∷ (pairResult study planQ is fitting (pos 3 over 1) (pos 3 over 1) (pos 3 over 1) (pos 3 over 1) equilibrium)
+    ∷ (pairResult study planF is fitting (pos 6 over 2) (pos 6 over 2) (pos 7 over 2) (pos 3 over 1) (deviation one (pos 1) ((0, 0) ∷ (2, 0) ∷ [])))
+    ∷ (pairResult study planMixed is fitting (pos 9 over 3) (pos 9 over 3) (pos 9 over 3) (pos 3 over 1) equilibrium)
     ∷ (length single is 13)
     ∷ (length bare is 4)
-    ∷ (outcome single bare is fitting (pos 35 over 7) (pos 42 over 7) (pos 35 over 7) (pos 42 over 7) equilibrium)
+    ∷ (pairResult single bare is fitting (pos 35 over 7) (pos 42 over 7) (pos 35 over 7) (pos 42 over 7) equilibrium)
     ∷ (gameRefusal absentMinded is 13)
     ∷ []
 
 -- To unfold this is to unfold all of this file: for closed computation.
 unfoldable pub opened : Unit {0}
-unfolding study planM planQ planF planMixed single bare absentMinded outcome
+unfolding study planM planQ planF planMixed single bare absentMinded pairResult
 opened = tt

@@ -9,7 +9,7 @@ use Rattle.model.specs.Game.{Game, Player, one, two, isLeaf}
 use Rattle.model.specs.Sequences.{ownSequence, sequenceNumber, sequenceCount}
 
 -- "The row holds both numbers and, per player, the sum"
-pub record Row : Type 0 where
+pub record TableRow : Type 0 where
   pub sequence1 : ℕ
   pub sequence2 : ℕ
   pub sum1 : ℤ
@@ -34,15 +34,15 @@ module _ (g : Game) where
   pairSum p s t = sumWhere (g .nodes) (standsAt s t) (weightedPayoff p)
 
   -- the row of sequences s and t
-  unfoldable pub rowAt : (s t : ℕ) → List Row
+  unfoldable pub rowAt : (s t : ℕ) → List TableRow
   rowAt s t = record { sequence1 = s; sequence2 = t; sum1 = pairSum one s t; sum2 = pairSum two s t } ∷ []
 
   -- "one row for each pair of sequences at which some leaf stands"; a row whose sums are 0 stays
-  unfoldable pub rowsAt : (s t : ℕ) → List Row
+  unfoldable pub rowsAt : (s t : ℕ) → List TableRow
   rowsAt s t = cond (anyTo (g .nodes) (standsAt s t)) (rowAt s t) []
 
   -- "sorted by player 1's sequence, then player 2's"
-  unfoldable pub payoffTable : List Row
+  unfoldable pub payoffTable : List TableRow
   payoffTable = joinTo (sequenceCount g one) (λ s. joinTo (sequenceCount g two) (rowsAt s))
 
 -- To unfold this is to unfold all of this file: for closed computation.

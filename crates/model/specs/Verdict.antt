@@ -24,12 +24,12 @@ module _ (g : Game) (q : PlanPair) where
   gain p = scaledBest p -ℤ valueCount g q p
 
   -- p's deviation, as it is shown
-  unfoldable pub deviates : Player → Verdict
-  deviates p = deviation p (gain p) (bestResponse g p (q (other p)))
+  unfoldable pub deviationOf : Player → Verdict
+  deviationOf p = deviation p (gain p) (bestResponse g p (q (other p)))
 
   -- "Player 1 is shown if both can gain."
   unfoldable pub verdict : Verdict
-  verdict = cond (ltZ (pos 0) (gain one)) (deviates one) (cond (ltZ (pos 0) (gain two)) (deviates two) equilibrium)
+  verdict = cond (ltZ (pos 0) (gain one)) (deviationOf one) (cond (ltZ (pos 0) (gain two)) (deviationOf two) equilibrium)
 
 -- the strategy that a verdict shows: none where the pair is an equilibrium
 unfoldable pub shownMoves : Verdict → List Move
@@ -38,5 +38,5 @@ shownMoves (deviation p gain moves) = moves
 
 -- To unfold this is to unfold all of this file: for closed computation.
 unfoldable pub opened : Unit {0}
-unfolding scaledBest gain deviates verdict shownMoves
+unfolding scaledBest gain deviationOf verdict shownMoves
 opened = tt

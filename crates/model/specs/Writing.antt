@@ -2,9 +2,10 @@
 use Prim.Native.Nat.{ℕ, zero, suc, _*_, _^_}
 use mathlib.Core.Bool.{Bool, true, false, _&&_, cond}
 use mathlib.Core.List.{List, [], _∷_, _++_}
-use lib.ListN.{length, getD}
+use lib.ListN.{length}
 use lib.Dec.{eqb, ltb}
 use lib.IntN.{ℤ, pos, negsuc}
+use Rattle.algebra.specs.Arrays.{item, itemZ}
 use Rattle.algebra.specs.Bounded.{allTo, joinTo, listTo}
 use Rattle.model.specs.Bits.{bits, runBits, pack, twosComplement}
 use Rattle.model.specs.Game.{Game, Player, one, two, playerBit, isLeaf, isDecision, isChance}
@@ -86,14 +87,6 @@ module _ (g : Game) where
     payoffs2 = listTo (g .nodes) (payoffField two);
   }
 
--- the entry of a list at a place; 0 past its end
-abbrev pub entry : List ℕ → ℕ → ℕ
-entry l i = getD l i 0
-
--- the integer of a list at a place; 0 past its end
-abbrev pub entryZ : List ℤ → ℕ → ℤ
-entryZ l i = getD l i (pos 0)
-
 module _ (t : GameFields) where
   -- H: "They take the counts from the lengths of the tables"
   unfoldable pub setCount : ℕ
@@ -105,22 +98,22 @@ module _ (t : GameFields) where
 
   -- set entry h: player (1 bit), move count (7)
   unfoldable pub setBits : ℕ → List ℕ
-  setBits h = bits 1 (entry (t .setPlayers) h) ++ bits 7 (entry (t .setMoves) h)
+  setBits h = bits 1 (item (t .setPlayers) h) ++ bits 7 (item (t .setMoves) h)
 
   -- a payload of 32 bits, by the node's kind; the writer writes the zero bits itself
   unfoldable pub payloadBits : (kind n : ℕ) → List ℕ
-  payloadBits zero n = bits 16 (twosComplement 16 (entryZ (t .payoffs1) n)) ++ bits 16 (twosComplement 16 (entryZ (t .payoffs2) n))
-  payloadBits (suc zero) n = bits 12 (entry (t .nodeSets) n) ++ bits 20 0
-  payloadBits (suc (suc k)) n = bits 7 (entry (t .chanceMoves) n) ++ bits 25 0
+  payloadBits zero n = bits 16 (twosComplement 16 (itemZ (t .payoffs1) n)) ++ bits 16 (twosComplement 16 (itemZ (t .payoffs2) n))
+  payloadBits (suc zero) n = bits 12 (item (t .nodeSets) n) ++ bits 20 0
+  payloadBits (suc (suc k)) n = bits 7 (item (t .chanceMoves) n) ++ bits 25 0
 
   -- node record n: kind (2 bits), parent (12), move at the parent (6), chance weight (12), payload (32)
   unfoldable pub nodeBits : ℕ → List ℕ
   nodeBits n =
-      bits 2 (entry (t .kinds) n)
-      ++ bits 12 (entry (t .parents) n)
-      ++ bits 6 (entry (t .moves) n)
-      ++ bits 12 (entry (t .weights) n)
-      ++ payloadBits (entry (t .kinds) n) n
+      bits 2 (item (t .kinds) n)
+      ++ bits 12 (item (t .parents) n)
+      ++ bits 6 (item (t .moves) n)
+      ++ bits 12 (item (t .weights) n)
+      ++ payloadBits (item (t .kinds) n) n
 
   -- header: edition (4 bits, value 1), N (12), H (12), D0 (12)
   unfoldable pub headerBits : List ℕ
@@ -159,9 +152,9 @@ isZero (negsuc n) = false
 module _ (t : GameFields) where
   -- "a node kind given to a writer is not 0 to 2, or a number that the node's kind lacks is given and not 0"
   unfoldable pub kindFits : (kind n : ℕ) → Bool
-  kindFits zero n = eqb (entry (t .nodeSets) n) 0 && eqb (entry (t .chanceMoves) n) 0
-  kindFits (suc zero) n = eqb (entry (t .chanceMoves) n) 0 && isZero (entryZ (t .payoffs1) n) && isZero (entryZ (t .payoffs2) n)
-  kindFits (suc (suc zero)) n = eqb (entry (t .nodeSets) n) 0 && isZero (entryZ (t .payoffs1) n) && isZero (entryZ (t .payoffs2) n)
+  kindFits zero n = eqb (item (t .nodeSets) n) 0 && eqb (item (t .chanceMoves) n) 0
+  kindFits (suc zero) n = eqb (item (t .chanceMoves) n) 0 && isZero (itemZ (t .payoffs1) n) && isZero (itemZ (t .payoffs2) n)
+  kindFits (suc (suc zero)) n = eqb (item (t .nodeSets) n) 0 && isZero (itemZ (t .payoffs1) n) && isZero (itemZ (t .payoffs2) n)
   kindFits (suc (suc (suc k))) n = false
 
   -- "lists given side by side differ in length"
@@ -194,7 +187,7 @@ module _ (t : GameFields) where
 
   -- 17, for the game writer
   unfoldable pub gameFieldsFit : Bool
-  gameFieldsFit = sideBySide && numbersFit && allTo (nodeCount t) (λ n. kindFits (entry (t .kinds) n) n)
+  gameFieldsFit = sideBySide && numbersFit && allTo (nodeCount t) (λ n. kindFits (item (t .kinds) n) n)
 
 -- 17, for the plan writer
 unfoldable pub planFieldsFit : (d1 d2 : ℕ) → (weights : List ℕ) → Bool

@@ -13,7 +13,7 @@ use Rattle.algebra.proofs.Tests.{bool-same}
 use Rattle.algebra.proofs.Lists.{joinTo-cong}
 use Rattle.algebra.proofs.Searches.{anyTo-find, anyTo-make}
 use Rattle.algebra.proofs.Sums.{onlyZ, onlyZ-and, sum-cong, whereZ-is}
-use Rattle.algebra.proofs.Entries.{Every, every-where, every-join, Among, among-where, among-join}
+use Rattle.algebra.proofs.Elements.{Every, every-where, every-join, Among, among-where, among-join}
 use Rattle.model.specs.Game.{Game, Player, one, two, isLeaf}
 use Rattle.model.specs.Sequences.{sequenceCount}
 use Rattle.model.specs.Table.{ownNumber, standsAt, pairSum, rowAt, rowsAt, payoffTable, weightedPayoff}
@@ -21,8 +21,8 @@ use Rattle.model.specs.Rules.{GameRules}
 use Rattle.model.proofs.Budget.{GameLimits, table-fits}
 use Rattle.model.proofs.Numbers.{own-number-below, sequences-few}
 use Rattle.gather.specs.Leaves.{leafAt, leavesBelow, leavesOf, leafOf, Column, Gathered}
-use Rattle.payoff.specs.Table.{Keyed, weighedAt, standsBy, pairSumBy, rowOf, rowsBy, tableBy, TableIn, Addable, Tabular}
-use Rattle.gather.proofs.Gathering.{all-few}
+use Rattle.payoff.specs.Table.{Keyed, weighedAt, standsBy, pairSumBy, rowOf, rowsBy, tableBy, Leaves, TableLaid, Addable, Tabular}
+use Rattle.gather.proofs.Gathered.{all-few}
 use Rattle.gather.proofs.LeafSums.{leaves-sum, leaves-prefix, leaf-in}
 use Rattle.gather.proofs.LeafColumns.{player-leaves, ofPlayer}
 
@@ -137,6 +137,6 @@ module _ (g : Game) where
       addable2 = addable M two;
     }
 
-    -- what it leaves in the slices is the game's table
-    pub table-rows : {before1 before2 : List ℕ} {beforeSum1 beforeSum2 : List ℤ} {rows : ℕ} {sequence1 sequence2 : List ℕ} {sum1 sum2 : List ℤ} → TableIn (tableBy first second count chance payoffs1 payoffs2 (sequenceCount g one) (sequenceCount g two)) before1 before2 beforeSum1 beforeSum2 rows sequence1 sequence2 sum1 sum2 → TableIn (payoffTable g) before1 before2 beforeSum1 beforeSum2 rows sequence1 sequence2 sum1 sum2
+    -- the rows from them are the game's table
+    pub table-rows : {rows : ℕ} {all : Leaves} → TableLaid (tableBy first second count chance payoffs1 payoffs2 (sequenceCount g one) (sequenceCount g two)) rows all → TableLaid (payoffTable g) rows all
     table-rows t = rw table-is at t

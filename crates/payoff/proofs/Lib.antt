@@ -1,7 +1,9 @@
+pub mod Blocks
+pub mod GameLeaves
 pub mod GameTables
 pub mod Listings
-pub mod Numbering
 pub mod PayoffTables
 pub mod Ranks
-pub mod Sorting
-pub mod Tabulating
+pub mod RowBounds
+pub mod RowSums
+pub mod SortedPairs

@@ -7,16 +7,15 @@ use native.Mathlib.Omega.{arith}
 use lib.ListN.{length}
 use lib.Dec.{T, eqb}
 use Rattle.algebra.specs.Bounded.{implies}
-use Rattle.algebra.specs.Arrays.{Holds, over}
-use Rattle.algebra.proofs.Counts.{count-cong}
+use Rattle.algebra.specs.Arrays.{item, Holds, over}
+use Rattle.algebra.proofs.Totals.{count-cong}
 use Rattle.algebra.proofs.Searches.{allTo-cong}
 use Rattle.algebra.proofs.Fillings.{filled}
 use Rattle.model.specs.Game.{Game, Player, one, two, owns, movesBefore}
 use Rattle.model.specs.Sequences.{Move, Sequence, byLastMove, leading, moveNumber, sequenceNumber, sequenceCount}
 use Rattle.model.specs.Plan.{sequenceWeight, balanced, fits, pairFits, weightsBefore, weightPlace, weightBit, planPairOf}
 use Rattle.model.specs.Rules.{GameRules}
-use Rattle.model.specs.Writing.{entry}
-use Rattle.model.specs.Budget.{weightLimit}
+use Rattle.model.specs.Limits.{weightLimit}
 use Rattle.model.proofs.Bits.{field-fits}
 use Rattle.model.proofs.Budget.{plan-limits}
 use Rattle.model.proofs.Numbers.{moves-block, number-below}
@@ -67,14 +66,14 @@ module _ (g : Game) (plan : List ℕ) (p : Player) where
 -- A plan whose weights by number are an array's, and one whose weights are those that the array holds.
 module _ (g : Game) (rules : GameRules g) (p : Player) (f : ℕ → ℕ) {x : List ℕ} (held : Holds f (sequenceCount g p) x) where
   -- both are balanced alike at p's sets
-  same-balance : (h : ℕ) → h < g .sets → T (owns g p h) → balanced g (planByNumber g p (entry x)) h ≡ balanced g (planByNumber g p f) h
+  same-balance : (h : ℕ) → h < g .sets → T (owns g p h) → balanced g (planByNumber g p (item x)) h ≡ balanced g (planByNumber g p f) h
   unfolding balanced planByNumber moveNumber sequenceCount
   same-balance h l o =
-      rw (weight-at g p (entry x) (leading g h), weight-at g p f (leading g h), held .at _ (number-below g p (leading g h) (leading-sequence g rules p h l o)))
+      rw (weight-at g p (item x) (leading g h), weight-at g p f (leading g h), held .at _ (number-below g p (leading g h) (leading-sequence g rules p h l o)))
       (ap (λ (k : ℕ). eqb k (f (sequenceNumber g p (leading g h)))) (count-cong (g .setMoves h) _ _ (λ m v. held .at (1 + movesBefore g p h + m) (omega (arith, moves-block g p h (g .sets) l o)))))
 
   -- so both fit, or neither
-  pub same-fits : fits g p (planByNumber g p (entry x)) ≡ fits g p (planByNumber g p f)
+  pub same-fits : fits g p (planByNumber g p (item x)) ≡ fits g p (planByNumber g p f)
   unfolding fits implies
   same-fits = allTo-cong (g .sets) _ _ (λ h l. go (owns g p h) (λ o. same-balance h l o))
     where
@@ -85,14 +84,14 @@ module _ (g : Game) (rules : GameRules g) (p : Player) (f : ℕ → ℕ) {x : Li
 -- Check 16 of a plan file, by the arrays that its weights were put into.
 module _ (g : Game) (rules : GameRules g) (plan : List ℕ) {x y : List ℕ} (held1 : Holds (weightByNumber g plan one) (sequenceCount g one) x) (held2 : Holds (weightByNumber g plan two) (sequenceCount g two) y) where
   -- one player's
-  plan-fits : (p : Player) {l : List ℕ} → Holds (weightByNumber g plan p) (sequenceCount g p) l → fits g p (planByNumber g p (entry l)) ≡ fits g p (planPairOf g plan p)
+  plan-fits : (p : Player) {l : List ℕ} → Holds (weightByNumber g plan p) (sequenceCount g p) l → fits g p (planByNumber g p (item l)) ≡ fits g p (planPairOf g plan p)
   plan-fits p held = same-fits g rules p (weightByNumber g plan p) held ∙ ap (fits g p) (sym (plan-is g plan p))
 
   -- both players'
-  pub same-pair-fits : pairFits g (pairByNumber g (entry x) (entry y)) ≡ pairFits g (planPairOf g plan)
+  pub same-pair-fits : pairFits g (pairByNumber g (item x) (item y)) ≡ pairFits g (planPairOf g plan)
   unfolding pairFits pairByNumber
   same-pair-fits = rw (plan-fits one held1, plan-fits two held2)
 
   -- its answer is the file's
-  pub pair-fits : {r : Checked} → r ≡ checkedOf 16 (pairFits g (pairByNumber g (entry x) (entry y))) → r ≡ checkedOf 16 (pairFits g (planPairOf g plan))
+  pub pair-fits : {r : Checked} → r ≡ checkedOf 16 (pairFits g (pairByNumber g (item x) (item y))) → r ≡ checkedOf 16 (pairFits g (planPairOf g plan))
   pair-fits e = e ∙ ap (checkedOf 16) same-pair-fits

@@ -9,10 +9,11 @@ use borrow.Author.Tests.{ne-eqb}
 use lib.Dec.{eqb}
 use lib.ListN.{length}
 use Rattle.algebra.specs.Bounded.{listTo}
-use Rattle.algebra.specs.Arrays.{placed, Holds, over}
+use Rattle.algebra.specs.Arrays.{item, placed, Holds, over}
 use Rattle.algebra.proofs.Lists.{length-listTo, listTo-cong, listTo-plus}
 use Rattle.algebra.proofs.Arrays.{placed-twice}
 use Rattle.algebra.proofs.Fillings.{filled}
+use Rattle.model.specs.Limits.{countLimit}
 use Rattle.model.specs.Bits.{field, fields}
 use Rattle.model.specs.Game.{Game, Player, gameOf, one, two, movesBefore}
 use Rattle.model.specs.Sequences.{sequenceCount}
@@ -22,25 +23,24 @@ use Rattle.model.specs.PlanChecks.{Files, files}
 use Rattle.model.specs.Rows.{of, refusal}
 use Rattle.model.proofs.Rows.{named-of, refusal-below}
 use Rattle.checks.proofs.Chains.{after, refusal-of}
-use Rattle.model.specs.Writing.{entry}
-use Rattle.records.specs.declared.Header.{Header}
+use Rattle.records.specs.declared.game.Header.{Header}
 use Rattle.sequences.specs.declared.SequenceCounts.{SequenceCounts}
 use Rattle.model.proofs.Checks.{game-named, game-rules}
 use Rattle.model.proofs.Budget.{game-limits}
 use Rattle.model.proofs.Numbers.{sequences-few}
 use Rattle.records.specs.Records.{headerOf}
 use Rattle.sequences.specs.Sets.{countsOf}
-use Rattle.game.proofs.Outcomes.{Sent}
-use Rattle.plan.specs.declared.Denominators.{Denominators}
+use Rattle.game.proofs.Refusals.{RefusedWith}
+use Rattle.records.specs.declared.plan.Denominators.{Denominators}
 use Rattle.plan.specs.declared.PairHeader.{PairHeader}
 use Rattle.plan.specs.declared.PlanAnswer.{PlanAnswer}
 use Rattle.plan.specs.declared.PlanAnswer.the-variants as Plan
 use Rattle.plan.specs.declared.PairAnswer.{PairAnswer}
 use Rattle.plan.specs.declared.PairAnswer.the-variants as Pair
-use Rattle.plan.specs.Header.{denominatorsOf}
+use Rattle.records.specs.PlanRecords.{denominatorsOf}
 use Rattle.plan.specs.Weights.{weightsFrom, weightByNumber}
-use Rattle.plan.specs.Answers.{planRefusal, planAnswer, pairAnswer, refusalOf, pairRefusalOf, weightsAfter, inFileOrder}
-use Rattle.plan.proofs.Outcomes.{some-sequence, room}
+use Rattle.plan.specs.Refusals.{planRefusal, planAnswer, pairAnswer, planRefusalOf, pairRefusalOf, weightsAfter, inFileOrder}
+use Rattle.plan.proofs.Refusals.{some-sequence, room}
 
 module _ (game plan : List ℕ) where
   -- the game's refusal, and where it has none, the plan's
@@ -51,11 +51,11 @@ module _ (game plan : List ℕ) where
       after (of part gameRows) planRows (files game plan) (named-of part gameRows game-named) (refusal gameRows game) (refusal-of part gameRows (files game plan))
 
   -- a game that is refused
-  pub game-refused : {r : ℕ} → Sent game r → pairRefusal game plan ≡ r
+  pub game-refused : {r : ℕ} → RefusedWith game r → pairRefusal game plan ≡ r
   game-refused s = joined ∙ rw (ne-eqb (gameRefusal game) 0 (λ e. s .some (s .number ∙ e))) (sym (s .number))
 
   -- its number is none of a plan's, so the arrays are left
-  pub game-early : {r : ℕ} → Sent game r → (eqb r 0 || eqb r 16) ≡ false
+  pub game-early : {r : ℕ} → RefusedWith game r → (eqb r 0 || eqb r 16) ≡ false
   unfolding gameRefusal gameRows headerRows recordRows treeRows
   game-early {r} s =
       let low : r < 14 = omega (arith, s .number, refusal-below gameRows game 14 (omega arith) tt) in
@@ -77,14 +77,14 @@ module _ (game plan : List ℕ) where
       go (suc j) e = let z : _≡_ {A = ℕ} 0 1 = cc in absurd (omega arith)
 
   -- the number of a plan's refusal
-  pub plan-sent : {a : PlanAnswer} {k r : ℕ} → a ≡ planAnswer (planRefusal game plan) game plan → a ≡ Plan.Refused k → r ≡ refusalOf a → (r ≡ planRefusal game plan) × ¬ (r ≡ 0)
-  plan-sent {a} {k} {r} e f g = go (planRefusal game plan) refl (sym f ∙ e)
+  pub plan-refused-with : {a : PlanAnswer} {k r : ℕ} → a ≡ planAnswer (planRefusal game plan) game plan → a ≡ Plan.Refused k → r ≡ planRefusalOf a → (r ≡ planRefusal game plan) × ¬ (r ≡ 0)
+  plan-refused-with {a} {k} {r} e f g = go (planRefusal game plan) refl (sym f ∙ e)
     where
       go : (n : ℕ) → planRefusal game plan ≡ n → Plan.Refused k ≡ planAnswer n game plan → (r ≡ planRefusal game plan) × ¬ (r ≡ 0)
       go zero m e = let z : _≡_ {A = ℕ} 0 1 = cc in absurd (omega arith)
       go (suc n) m e =
           let same : k ≡ suc n = cc in
-          let is : r ≡ k = g ∙ ap refusalOf f in
+          let is : r ≡ k = g ∙ ap planRefusalOf f in
           (is ∙ same ∙ sym m, λ z. omega (arith, is, same))
 
   -- what is known of a pair that fits
@@ -115,8 +115,8 @@ module _ (game plan : List ℕ) where
       go (suc n) k e = let z : _≡_ {A = ℕ} 0 1 = cc in absurd (omega arith)
 
   -- the number of a pair's refusal
-  pub pair-sent : {a : PairAnswer} {k r : ℕ} → a ≡ pairAnswer (pairRefusal game plan) game plan → a ≡ Pair.Refused k → r ≡ pairRefusalOf a → (r ≡ pairRefusal game plan) × ¬ (r ≡ 0)
-  pair-sent {a} {k} {r} e f g = go (pairRefusal game plan) refl (sym f ∙ e)
+  pub pair-refused-with : {a : PairAnswer} {k r : ℕ} → a ≡ pairAnswer (pairRefusal game plan) game plan → a ≡ Pair.Refused k → r ≡ pairRefusalOf a → (r ≡ pairRefusal game plan) × ¬ (r ≡ 0)
+  pair-refused-with {a} {k} {r} e f g = go (pairRefusal game plan) refl (sym f ∙ e)
     where
       go : (n : ℕ) → pairRefusal game plan ≡ n → Pair.Refused k ≡ pairAnswer n game plan → (r ≡ pairRefusal game plan) × ¬ (r ≡ 0)
       go zero m e = let z : _≡_ {A = ℕ} 0 1 = cc in absurd (omega arith)
@@ -130,15 +130,15 @@ pub pair-over : (game plan : List ℕ) {h : PairHeader} → PairOpened game plan
 pair-over game plan o p l e = rw (o .none) at e
 
 -- and hold its weights
-pub pair-holds : (game plan : List ℕ) {h : PairHeader} → PairOpened game plan h → (p : Player) {x : List ℕ} (l : List ℕ) → x ≡ weightsAfter (pairRefusal game plan) game plan p l → 4095 ≤ length l → Holds (weightByNumber (gameOf game) plan p) (sequenceCount (gameOf game) p) x
+pub pair-holds : (game plan : List ℕ) {h : PairHeader} → PairOpened game plan h → (p : Player) {x : List ℕ} (l : List ℕ) → x ≡ weightsAfter (pairRefusal game plan) game plan p l → countLimit ≤ length l → Holds (weightByNumber (gameOf game) plan p) (sequenceCount (gameOf game) p) x
 pair-holds game plan o p l e b = filled l (pair-over game plan o p l e) (room game (game-rules game (o .game-none)) p l b)
 
 -- how many sequences each player has
 pub record PairCounted (game : List ℕ) (n : SequenceCounts) : Type 0 where
   pub some1 : 1 ≤ n .first
   pub some2 : 1 ≤ n .second
-  pub few1 : n .first ≤ 4095
-  pub few2 : n .second ≤ 4095
+  pub few1 : n .first ≤ countLimit
+  pub few2 : n .second ≤ countLimit
   pub is1 : n .first ≡ sequenceCount (gameOf game) one
   pub is2 : n .second ≡ sequenceCount (gameOf game) two
 
@@ -167,13 +167,13 @@ file-order g plan x y a b =
     let n = movesBefore g two (g .sets) in
     let c : 1 + m - 1 ≡ m = omega arith in
     let d : 1 + n - 1 ≡ n = omega arith in
-    rw (c, d, listTo-plus m n (λ i. field plan (32 + 12 * i) 12), listTo-cong m (λ i. entry x (suc i)) (λ i. field plan (32 + 12 * i) 12) (λ i l. a .at (suc i) (omega arith) ∙ rw (NatL.zero-add i)), listTo-cong n (λ i. entry y (suc i)) (λ i. field plan (32 + 12 * (m + i)) 12) (λ i l. b .at (suc i) (omega arith)))
+    rw (c, d, listTo-plus m n (λ i. field plan (32 + 12 * i) 12), listTo-cong m (λ i. item x (suc i)) (λ i. field plan (32 + 12 * i) 12) (λ i l. a .at (suc i) (omega arith) ∙ rw (NatL.zero-add i)), listTo-cong n (λ i. item y (suc i)) (λ i. field plan (32 + 12 * (m + i)) 12) (λ i l. b .at (suc i) (omega arith)))
 
 -- one player's weights after the other's
-pub both-placed : (n : SequenceCounts) (x y out : List ℕ) {m1 m2 : ℕ} {mid fin : List ℕ} → m1 ≡ n .first - 1 → m2 ≡ n .second - 1 → mid ≡ placed 0 (listTo m1 (λ i. entry x (suc i))) out → fin ≡ placed m1 (listTo m2 (λ i. entry y (suc i))) mid → fin ≡ placed 0 (inFileOrder n x y) out
+pub both-placed : (n : SequenceCounts) (x y out : List ℕ) {m1 m2 : ℕ} {mid fin : List ℕ} → m1 ≡ n .first - 1 → m2 ≡ n .second - 1 → mid ≡ placed 0 (listTo m1 (λ i. item x (suc i))) out → fin ≡ placed m1 (listTo m2 (λ i. item y (suc i))) mid → fin ≡ placed 0 (inFileOrder n x y) out
 unfolding inFileOrder
 both-placed n x y out {m1} {m2} a b e f =
-    let first = listTo m1 (λ i. entry x (suc i)) in
-    let second = listTo m2 (λ i. entry y (suc i)) in
-    let size : m1 ≡ 0 + length first = omega (arith, length-listTo m1 (λ i. entry x (suc i))) in
+    let first = listTo m1 (λ i. item x (suc i)) in
+    let second = listTo m2 (λ i. item y (suc i)) in
+    let size : m1 ≡ 0 + length first = omega (arith, length-listTo m1 (λ i. item x (suc i))) in
     f ∙ rw (e, ← a, ← b) (ap (λ (k : ℕ). placed k second (placed 0 first out)) size ∙ placed-twice 0 first second out (omega arith))

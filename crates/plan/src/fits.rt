@@ -2,11 +2,11 @@
 ghost use mathlib.Core.Path.{_≡_};
 ghost use Prim.Native.Nat.{_+_, _≤_, _<_};
 ghost use lib.ListN.{length, getD};
-ghost use Rattle.algebra.specs.Bounded.{countTo, implies};
-ghost use Rattle.algebra.specs.Arrays.{Holds};
+ghost use Rattle.algebra.specs.Bounded.{totalTo, implies};
+ghost use Rattle.algebra.specs.Arrays.{item, Holds};
+ghost use Rattle.model.specs.Limits.{countLimit};
 ghost use Rattle.model.specs.Game.{gameOf, playerOf, owns, one, two};
 ghost use Rattle.model.specs.Sequences.{firstNode};
-ghost use Rattle.model.specs.Writing.{entry};
 ghost use Rattle.model.specs.Rules.{GameRules};
 ghost use Rattle.model.specs.Plan.{balanced, fits, pairFits};
 ghost use Rattle.checks.specs.Checked.{checkedOf};
@@ -15,6 +15,7 @@ ghost use Rattle.sequences.specs.Sets.{firstSequence};
 ghost use Rattle.plan.specs.Weights.{planByNumber, pairByNumber, Small, Weights, Tables};
 use checks::Checked;
 use records::Header;
+use records::NodeRecord;
 use records::SetEntry;
 use sequences::lookup;
 use sequences::recall;
@@ -23,7 +24,7 @@ use sequences::sets;
 // The sum of the weights of a set's moves, the first at `start`.
 fn moves_weight(x: &[u64], start: usize, moves: usize) -> u64
     requires { ⌜ (moves ≤ 127) × (start + moves ≤ length (now x)) × Small (start + moves) (now x) ⌝ }
-    ensures { λ r. ⌜ r ≡ countTo moves (λ m. getD (now (x .entry)) (start + m) 0) ⌝ }
+    ensures { λ r. ⌜ r ≡ totalTo moves (λ m. getD (now (x .entry)) (start + m) 0) ⌝ }
 {
     let mut sum: u64 = 0;
     let mut m = 0;
@@ -45,7 +46,7 @@ fn set_balanced(
     x: &[u64],
 ) -> bool
     requires { ⌜ GameRules (gameOf (now game)) × (player < 2) × (h < gameOf (now game) .sets) × Tables (gameOf (now game)) (playerOf player) (now starts) (now first) (now own) × Weights (gameOf (now game)) (playerOf player) (now x) ⌝ }
-    ensures { λ r. ⌜ r ≡ implies (owns (gameOf (now (game .entry))) (playerOf player) h) (balanced (gameOf (now (game .entry))) (planByNumber (gameOf (now (game .entry))) (playerOf player) (entry (now (x .entry)))) h) ⌝ }
+    ensures { λ r. ⌜ r ≡ implies (owns (gameOf (now (game .entry))) (playerOf player) h) (balanced (gameOf (now (game .entry))) (planByNumber (gameOf (now (game .entry))) (playerOf player) (item (now (x .entry)))) h) ⌝ }
 {
     let entry = SetEntry::read(game, h);
     if entry.player == player {
@@ -67,8 +68,8 @@ fn player_fits(
     own: &mut [u64],
     x: &[u64],
 ) -> Checked
-    requires { ⌜ (header ≡ headerOf (now game)) × GameRules (gameOf (now game)) × (player < 2) × (4095 ≤ length (now own)) × Holds (firstSequence (gameOf (now game))) (gameOf (now game) .sets) (now starts) × Holds (firstNode (gameOf (now game))) (gameOf (now game) .sets) (now first) × Weights (gameOf (now game)) (playerOf player) (now x) ⌝ }
-    ensures { λ r. ⌜ r ≡ checkedOf 16 (fits (gameOf (now (game .entry))) (playerOf player) (planByNumber (gameOf (now (game .entry))) (playerOf player) (entry (now (x .entry))))) ⌝ }
+    requires { ⌜ (header ≡ headerOf (now game)) × GameRules (gameOf (now game)) × (player < 2) × (countLimit ≤ length (now own)) × Holds (firstSequence (gameOf (now game))) (gameOf (now game) .sets) (now starts) × Holds (firstNode (gameOf (now game))) (gameOf (now game) .sets) (now first) × Weights (gameOf (now game)) (playerOf player) (now x) ⌝ }
+    ensures { λ r. ⌜ r ≡ checkedOf 16 (fits (gameOf (now (game .entry))) (playerOf player) (planByNumber (gameOf (now (game .entry))) (playerOf player) (item (now (x .entry))))) ⌝ }
 {
     recall::own_numbers(game, header.records, header.nodes, player, starts, own);
     let sets = header.sets;
@@ -86,10 +87,10 @@ fn player_fits(
 // Check 16.
 pub fn pair_fits(game: &[u8], header: Header, starts: &[u64], x: &[u64], y: &[u64]) -> Checked
     requires { ⌜ (header ≡ headerOf (now game)) × GameRules (gameOf (now game)) × Holds (firstSequence (gameOf (now game))) (gameOf (now game) .sets) (now starts) × Weights (gameOf (now game)) one (now x) × Weights (gameOf (now game)) two (now y) ⌝ }
-    ensures { λ r. ⌜ r ≡ checkedOf 16 (pairFits (gameOf (now (game .entry))) (pairByNumber (gameOf (now (game .entry))) (entry (now (x .entry))) (entry (now (y .entry))))) ⌝ }
+    ensures { λ r. ⌜ r ≡ checkedOf 16 (pairFits (gameOf (now (game .entry))) (pairByNumber (gameOf (now (game .entry))) (item (now (x .entry))) (item (now (y .entry))))) ⌝ }
 {
-    let mut first = [0u64; 4095];
-    let mut own = [0u64; 4095];
+    let mut first = [0u64; NodeRecord::NODES];
+    let mut own = [0u64; NodeRecord::NODES];
     sets::first_nodes(game, header.records, header.nodes, header.sets, &mut first);
     let one = player_fits(game, header, 0, starts, &first, &mut own, x);
     let Checked::Fine = one else {

@@ -6,19 +6,17 @@ ghost use Rattle.model.specs.Game.{Game};
 ghost use Rattle.model.specs.Plan.{planMoves};
 ghost use Rattle.model.specs.PlanChecks.{planHasLength, planWellFormed};
 ghost use Rattle.checks.specs.Checked.{checkedOf};
-ghost use Rattle.plan.specs.Header.{planHeaderOf, headerRight};
-use super::PlanHeader;
+ghost use Rattle.records.specs.PlanRecords.{planHeaderOf};
+ghost use Rattle.plan.specs.Header.{headerRight};
 use checks::Checked;
+use records::PlanHeader;
 
 // Check 14, of a game with so many moves.
 pub fn has_length(plan: &[u8], moves: usize) -> Checked
     requires { ⌜ moves ≤ 4094 ⌝ }
     ensures { λ r. ⌜ ((g : Game) → moves ≡ planMoves g → r ≡ checkedOf 14 (planHasLength g (now (plan .entry)))) ⌝ }
 {
-    checks::check(
-        14,
-        plan.len() == (PlanHeader::BITS + PlanHeader::WEIGHT * moves + 7) / 8,
-    )
+    checks::check(14, plan.len() == PlanHeader::file_bytes(moves))
 }
 
 // Whether the edition is 1, no denominator is zero, and the zero bits are.
@@ -29,10 +27,10 @@ fn header_right(header: PlanHeader) -> bool
         return false;
     }
     let denominators = header.denominators;
-    if denominators.first == 0 {
+    if denominators.d1 == 0 {
         return false;
     }
-    if denominators.second == 0 {
+    if denominators.d2 == 0 {
         return false;
     }
     header.zeros == 0
@@ -44,8 +42,8 @@ pub fn well_formed(header: PlanHeader, plan: &[u8], moves: usize) -> Checked
     ensures { λ r. ⌜ ((g : Game) → moves ≡ planMoves g → r ≡ checkedOf 15 (planWellFormed g (now (plan .entry)))) ⌝ }
 {
     if header_right(header) {
-        let at = PlanHeader::BITS + PlanHeader::WEIGHT * moves;
-        if bits::field(plan, at, 8 * plan.len() - at) == 0 {
+        let at = PlanHeader::weight_at(moves);
+        if bits::read_field(plan, at, 8 * plan.len() - at) == 0 {
             return Checked::Fine;
         }
     }

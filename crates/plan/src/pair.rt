@@ -2,12 +2,12 @@
 ghost use mathlib.Core.Path.{_≡_};
 ghost use Prim.Native.Nat.{suc, _+_, _-_, _≤_};
 ghost use lib.ListN.{length};
-ghost use Rattle.algebra.specs.Arrays.{placed};
+ghost use Rattle.algebra.specs.Arrays.{item, placed};
 ghost use Rattle.algebra.specs.Bounded.{listTo};
+ghost use Rattle.model.specs.Limits.{countLimit};
 ghost use Rattle.model.specs.Game.{one, two};
 ghost use Rattle.model.specs.Checks.{pairRefusal};
-ghost use Rattle.model.specs.Writing.{entry};
-ghost use Rattle.plan.specs.Answers.{refusalOf, pairAnswer, pairRefusalOf, weightsAfter, inFileOrder};
+ghost use Rattle.plan.specs.Refusals.{planRefusalOf, pairAnswer, pairRefusalOf, weightsAfter, inFileOrder};
 use super::PairAnswer;
 use super::PairHeader;
 use super::PlanAnswer;
@@ -16,7 +16,7 @@ use sequences::SequenceCounts;
 
 // The number of a plan's refusal, or 0.
 fn plan_refusal(answer: PlanAnswer) -> u64
-    ensures { λ r. ⌜ r ≡ refusalOf answer ⌝ }
+    ensures { λ r. ⌜ r ≡ planRefusalOf answer ⌝ }
 {
     match answer {
         PlanAnswer::Fits(_, _) => 0,
@@ -36,7 +36,7 @@ pub fn refusal(answer: PairAnswer) -> u64
 
 // Checks 1 to 16. Past 15 the arrays are filled with both players' weights by sequence number.
 pub fn read(game: &[u8], plan: &[u8], x: &mut [u64], y: &mut [u64]) -> PairAnswer
-    requires { ⌜ (4095 ≤ length (now x)) × (4095 ≤ length (now y)) ⌝ }
+    requires { ⌜ (countLimit ≤ length (now x)) × (countLimit ≤ length (now y)) ⌝ }
     ensures { λ r. ⌜ (r ≡ pairAnswer (pairRefusal (now (game .entry)) (now (plan .entry))) (now (game .entry)) (now (plan .entry))) × (now (x .exit) ≡ weightsAfter (pairRefusal (now (game .entry)) (now (plan .entry))) (now (game .entry)) (now (plan .entry)) one (now (x .entry))) × (now (y .exit) ≡ weightsAfter (pairRefusal (now (game .entry)) (now (plan .entry))) (now (game .entry)) (now (plan .entry)) two (now (y .entry))) ⌝ }
 {
     let checked = game::check(game);
@@ -57,7 +57,7 @@ pub fn read(game: &[u8], plan: &[u8], x: &mut [u64], y: &mut [u64]) -> PairAnswe
 // Puts a player's weights without his denominator into `out`, from place `at` on.
 fn put_moves(x: &[u64], moves: usize, out: &mut [u64], at: usize)
     requires { ⌜ (1 + moves ≤ length (now x)) × (at + moves ≤ length (now out)) ⌝ }
-    ensures { λ _. ⌜ now (out .exit) ≡ placed at (listTo moves (λ i. entry (now (x .entry)) (suc i))) (now (out .entry)) ⌝ }
+    ensures { λ _. ⌜ now (out .exit) ≡ placed at (listTo moves (λ i. item (now (x .entry)) (suc i))) (now (out .entry)) ⌝ }
 {
     let mut i = 0;
     while i < moves {
@@ -79,7 +79,7 @@ pub fn put_weights(counts: SequenceCounts, x: &[u64], y: &[u64], out: &mut [u64]
 
 // How many weights a plan file has.
 pub fn weight_count(counts: SequenceCounts) -> usize
-    requires { ⌜ (1 ≤ counts .first) × (1 ≤ counts .second) × (counts .first ≤ 4095) × (counts .second ≤ 4095) ⌝ }
+    requires { ⌜ (1 ≤ counts .first) × (1 ≤ counts .second) × (counts .first ≤ countLimit) × (counts .second ≤ countLimit) ⌝ }
     ensures { λ r. ⌜ r ≡ (counts .first - 1) + (counts .second - 1) ⌝ }
 {
     bits::index(counts.first - 1) + bits::index(counts.second - 1)

@@ -4,7 +4,7 @@ ghost use Prim.Native.Nat.{_+_, _≤_, _<_};
 ghost use lib.ListN.{length};
 ghost use Rattle.algebra.specs.Arrays.{over};
 ghost use Rattle.plan.specs.Weights.{weightsFrom};
-use super::PlanHeader;
+use records::PlanHeader;
 
 // Puts a player's weights into the array: his denominator, then those of his moves, before which `before` others stand in the file.
 pub fn decode(plan: &[u8], denominator: u64, before: usize, moves: usize, out: &mut [u64])
@@ -12,6 +12,6 @@ pub fn decode(plan: &[u8], denominator: u64, before: usize, moves: usize, out: &
     ensures { λ _. ⌜ now (out .exit) ≡ over (weightsFrom (now (plan .entry)) denominator before) (1 + moves) (now (out .entry)) ⌝ }
 {
     out[0] = denominator;
-    let at = PlanHeader::BITS + PlanHeader::WEIGHT * before;
-    bits::read_run(plan, at, PlanHeader::WEIGHT, moves, out, 1);
+    let at = PlanHeader::weight_at(before);
+    bits::read_run(plan, at, PlanHeader::WEIGHT_BITS, moves, out, 1);
 }

@@ -10,6 +10,7 @@ use lib.ListN.{length, take}
 use lib.Seq.{take-all}
 use borrow.Author.Tests.{le-leb}
 use Rattle.algebra.proofs.Tests.{true→T, cond-yes}
+use Rattle.model.specs.Limits.{countLimit}
 use Rattle.model.specs.Game.{gameOf, one, two}
 use Rattle.model.specs.Plan.{planMoves, planPairOf, planWeights, weightBit}
 use Rattle.model.specs.PlanChecks.{Files, files}
@@ -38,9 +39,9 @@ use Rattle.checks.specs.declared.Checked.the-variants.{Fine, Broken}
 use Rattle.checks.specs.Checked.{checkedOf, numberOf}
 use Rattle.checks.proofs.Rooms.{split}
 use Rattle.checks.proofs.Chains.{Refuses, begin, passes, stops, refusal-of, is-broken, fine-holds, call-refuses, call-room, inRoom, same-run}
-use Rattle.writers.specs.declared.WriteAnswer.{WriteAnswer}
-use Rattle.writers.specs.declared.WriteAnswer.the-variants.{Written, Refused}
-use Rattle.writers.specs.Answers.{writeAnswered}
+use Rattle.checks.specs.declared.WriteAnswer.{WriteAnswer}
+use Rattle.checks.specs.declared.WriteAnswer.the-variants.{Written, Refused}
+use Rattle.checks.specs.Answers.{writeAnswered}
 use Rattle.plans.specs.declared.WeightsAnswer.{WeightsAnswer}
 use Rattle.plans.specs.declared.WeightsAnswer.the-variants as Weights
 use Rattle.plans.specs.Answers.{weightsAnswered}
@@ -71,11 +72,11 @@ module _ (game plan out : List ℕ) where
   length-weights = length-fields plan (weightBit 0) 12 (planMoves (gameOf game))
 
   -- so a buffer of 4,095 numbers has room for any plan's
-  roomy : (l : List ℕ) → 4095 ≤ length l → refusal pairRows pair ≡ 0 → longEnough (length (planWeights (gameOf game) plan) ∷ []) (length l ∷ []) ≡ true
+  roomy : (l : List ℕ) → countLimit ≤ length l → refusal pairRows pair ≡ 0 → longEnough (length (planWeights (gameOf game) plan) ∷ []) (length l ∷ []) ≡ true
   roomy l long e = rw (le-leb (length (planWeights (gameOf game) plan)) (length l) (omega (arith, length-weights, few e)))
 
   -- what reading refuses
-  pub rewrite-refused : (l : List ℕ) → 4095 ≤ length l → {r : WeightsAnswer} {after : List ℕ} {k m : ℕ} → outcome (weightsAnswered r) (after, tt) ≡ PlanFields.planFields game plan l → r ≡ Weights.Refused k → m ≡ refusalOf (weightsAnswered r) → outcome (refused m) (out, tt) ≡ RewritePlan.rewritePlan game plan out
+  pub rewrite-refused : (l : List ℕ) → countLimit ≤ length l → {r : WeightsAnswer} {after : List ℕ} {k m : ℕ} → outcome (weightsAnswered r) (after, tt) ≡ PlanFields.planFields game plan l → r ≡ Weights.Refused k → m ≡ refusalOf (weightsAnswered r) → outcome (refused m) (out, tt) ≡ RewritePlan.rewritePlan game plan out
   unfolding PlanFields.call RewritePlan.call
   rewrite-refused l long {r} {after} {k} {m} e f g =
       let s : Refuses pairRows pair k = not-gave PlanFields.call pair-named pair (l, tt) e (ap weightsAnswered f) (roomy l long) in

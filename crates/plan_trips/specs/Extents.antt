@@ -1,7 +1,7 @@
 -- How much of a lent file is read after a writer's answer.
 use Prim.Native.Nat.{ℕ}
-use Rattle.writers.specs.declared.WriteAnswer.{WriteAnswer}
-use Rattle.writers.specs.declared.WriteAnswer.the-variants.{Written, Refused}
+use Rattle.checks.specs.declared.WriteAnswer.{WriteAnswer}
+use Rattle.checks.specs.declared.WriteAnswer.the-variants.{Written, Refused}
 
 -- what is written; the whole file where nothing is
 abbrev pub extentOf : (all : ℕ) → WriteAnswer → ℕ

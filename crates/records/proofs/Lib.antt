@@ -1,5 +1,6 @@
-pub mod Fields
+pub mod Records
+mod Packed
 pub mod Headers
 mod Payloads
-pub mod Reading
+pub mod Widths
 pub mod Rooted

@@ -1,5 +1,5 @@
 -- Payloads by kind.
-use Prim.Native.Nat.{ℕ, zero, suc, _+_, _*_, _<_, _≤_}
+use Prim.Native.Nat.{ℕ, zero, suc, _+_, _*_, _<_, _≤_, _^_}
 use mathlib.Core.Path.{_≡_, refl, sym, ap, _∙_}
 use mathlib.Core.List.{List}
 use native.Mathlib.Omega.{arith}
@@ -9,9 +9,9 @@ use Rattle.algebra.proofs.Tests.{cond-no, eqb-make}
 use Rattle.model.specs.Game.{Game, gameOf, setAt, nodeAt, isDecision, isChance, nodeMoves}
 use Rattle.model.proofs.Tree.{decision-moves}
 use Rattle.model.proofs.Bits.{field-fits}
-use Rattle.records.specs.declared.Payload.{Payload}
+use Rattle.records.specs.declared.game.Payload.{Payload}
 use Rattle.records.specs.Records.{payloadOf, noPayload, NodeRead}
-use Rattle.records.proofs.Fields.{moves-by-kind}
+use Rattle.records.proofs.Records.{moves-by-kind}
 
 -- a kind that does not exist has nothing
 pub other-payload : (bytes : List ℕ) (at kind : ℕ) → 3 ≤ kind → payloadOf bytes at kind ≡ noPayload
@@ -22,7 +22,7 @@ other-payload bytes at (suc (suc zero)) l = absurd (omega arith)
 other-payload bytes at (suc (suc (suc k))) l = refl
 
 -- a payload's set fits its width, whatever the kind
-pub payload-set : (bytes : List ℕ) (at kind : ℕ) → payloadOf bytes at kind .set < 4096
+pub payload-set : (bytes : List ℕ) (at kind : ℕ) → payloadOf bytes at kind .set < 2 ^ 12
 unfolding payloadOf
 payload-set bytes at zero = omega arith
 payload-set bytes at (suc zero) = omega (arith, field-fits bytes at 12)

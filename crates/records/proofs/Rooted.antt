@@ -12,7 +12,7 @@ use Rattle.model.proofs.Budget.{game-limits}
 use Rattle.model.proofs.Tree.{decision-kind, chance-kind}
 use Rattle.model.proofs.GameRules.{counts-iff, set-moves-iff, payloads-iff, attached-iff}
 use Rattle.records.specs.Rooted.{Rooted}
-use Rattle.records.proofs.Reading.{few-sets}
+use Rattle.records.proofs.Widths.{few-sets}
 
 -- a node's move count is its set's, its own or none
 bounded : (a b : Bool) (x y : ℕ) → (T a → x ≤ 64) → (T b → y ≤ 64) → cond a x (cond b y 0) ≤ 64

@@ -1,2 +1,3 @@
+pub mod PlanRecords
 pub mod Records
 pub mod Rooted

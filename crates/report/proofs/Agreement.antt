@@ -9,10 +9,10 @@ use Rattle.model.specs.Game.{Game, one, two}
 use Rattle.model.specs.Plan.{PlanPair}
 use Rattle.model.specs.Earnings.{valueBase, value, againstBase}
 use Rattle.model.specs.BestResponse.{bestValue, bestResponse}
-use Rattle.model.specs.Verdict.{verdict, gain, deviates, equilibrium}
+use Rattle.model.specs.Verdict.{verdict, gain, deviationOf, equilibrium}
 use Rattle.model.specs.Report.{moveLine, valueLine, bestLine, gainAmount, verdictLines, report}
 use Rattle.form.specs.Values.{valuesOf}
-use Rattle.judgement.proofs.Judging.{withoutMoves}
+use Rattle.judgement.proofs.Judgement.{withoutMoves}
 use Rattle.text.specs.Lines.{amountLine}
 use Rattle.report.specs.Whole.{basesOf, bothLines, valuesText, strategyLines, deviationText, verdictText, reportText}
 
@@ -24,10 +24,10 @@ module _ (g : Game) (q : PlanPair) where
   -- Moves by set whose lines are those of the best responses.
   module _ (moves1 moves2 : List ℕ) (first : strategyLines g one moves1 ≡ flatMap moveLine (bestResponse g one (q two))) (second : strategyLines g two moves2 ≡ flatMap moveLine (bestResponse g two (q one))) where
     verdict-is : verdictText g (valueBase g q) (withoutMoves (verdict g q)) moves1 moves2 ≡ verdictLines g q (verdict g q)
-    unfolding verdict deviates verdictText deviationText amountLine verdictLines gainAmount
+    unfolding verdict deviationOf verdictText deviationText amountLine verdictLines gainAmount
     verdict-is = go (ltZ (pos 0) (gain g q one)) (ltZ (pos 0) (gain g q two))
       where
-        go : (a b : Bool) → verdictText g (valueBase g q) (withoutMoves (cond a (deviates g q one) (cond b (deviates g q two) equilibrium))) moves1 moves2 ≡ verdictLines g q (cond a (deviates g q one) (cond b (deviates g q two) equilibrium))
+        go : (a b : Bool) → verdictText g (valueBase g q) (withoutMoves (cond a (deviationOf g q one) (cond b (deviationOf g q two) equilibrium))) moves1 moves2 ≡ verdictLines g q (cond a (deviationOf g q one) (cond b (deviationOf g q two) equilibrium))
         go true b = rw first
         go false true = rw second
         go false false = refl

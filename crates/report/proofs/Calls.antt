@@ -27,15 +27,15 @@ use Rattle.checks.proofs.Files.{pair-refuses, pair-fine}
 use Rattle.model.proofs.Rows.{refusal-below}
 use Rattle.checks.proofs.OneBuffer.{one-short, one-given}
 use Rattle.records.proofs.Headers.{header-weight, header-sets}
-use Rattle.records.proofs.Reading.{few-sets}
+use Rattle.records.proofs.Widths.{few-sets}
 use Rattle.plan.specs.declared.PairHeader.{PairHeader}
 use Rattle.plan.proofs.Pairs.{PairOpened}
 use Rattle.form.specs.declared.Values.{Values}
-use Rattle.plan.proofs.PairDenominators.{first-is, second-is}
+use Rattle.plan.proofs.PairDenominators.{d1-is, d2-is}
 use Rattle.judgement.specs.declared.Verdict.{Verdict}
 use Rattle.judgement.specs.Judgement.{judged}
-use Rattle.verdict.proofs.Evaluated.{EvaluationOpened}
-use Rattle.verdict.proofs.Judged.{judged-as}
+use Rattle.verdict.proofs.EvaluatedPairs.{EvaluationOpened}
+use Rattle.verdict.proofs.VerdictAnswered.{judged-as}
 use Rattle.text.specs.Text.{Put}
 use Rattle.text.proofs.Lengths.{refusal-line-length}
 use Rattle.report.specs.Giving.{giving}
@@ -62,12 +62,12 @@ line-given number buffer = same-run giving Line.call tt tt (Text.refusalLine num
 -- Two files.
 module _ (game plan : List ℕ) where
   -- a pair that is refused
-  pub report-refused : (buffer : List ℕ) {n : ℕ} → n ≡ pairRefusal game plan → ¬ (n ≡ 0) → outcome (refused n) (buffer, tt) ≡ Call.report game plan buffer
+  pub report-refused : (buffer : List ℕ) {n : ℕ} → n ≡ pairRefusal game plan → ¬ (n ≡ 0) → outcome (refused n) (buffer, tt) ≡ Call.reportCall game plan buffer
   unfolding Call.call
   report-refused buffer e s = sym (call-refuses Call.call pair-named (files game plan) (buffer, tt) (pair-refuses e s))
 
   -- the report on one that is not is given as a text
-  pub report-given : (buffer : List ℕ) → pairRefusal game plan ≡ 0 → run giving (Text.reportOf game plan) (buffer, tt) ≡ Call.report game plan buffer
+  pub report-given : (buffer : List ℕ) → pairRefusal game plan ≡ 0 → run giving (Text.reportOf game plan) (buffer, tt) ≡ Call.reportCall game plan buffer
   unfolding giving Call.call
   report-given buffer e = same-run giving Call.call tt pair-named (Text.reportOf game plan) (files game plan) (buffer, tt) (ends (begin [] (Text.reportOf game plan)) ∙ sym (pair-fine game plan e)) (λ none. (refl, refl))
 
@@ -95,11 +95,11 @@ module _ (game plan : List ℕ) where
       go (suc k) e l = rw (ne-eqb (suc k) 0 (λ z. omega arith)) (omega (arith, refusal-line-length (suc k) l))
 
   -- with so much room the report is refused only where its files are
-  pub report-by-files : (buffer : List ℕ) → most ≤ length buffer → Call.report game plan buffer ≡ outcome (answerOf (pairRefusal game plan) (length (Text.reportOf game plan))) (afterCall (pairRefusal game plan) (Text.reportOf game plan) buffer, tt)
+  pub report-by-files : (buffer : List ℕ) → most ≤ length buffer → Call.reportCall game plan buffer ≡ outcome (answerOf (pairRefusal game plan) (length (Text.reportOf game plan))) (afterCall (pairRefusal game plan) (Text.reportOf game plan) buffer, tt)
   unfolding Call.call afterCall
   report-by-files buffer l = go (pairRefusal game plan) refl
     where
-      go : (k : ℕ) → pairRefusal game plan ≡ k → Call.report game plan buffer ≡ outcome (answerOf k (length (Text.reportOf game plan))) (afterCall k (Text.reportOf game plan) buffer, tt)
+      go : (k : ℕ) → pairRefusal game plan ≡ k → Call.reportCall game plan buffer ≡ outcome (answerOf k (length (Text.reportOf game plan))) (afterCall k (Text.reportOf game plan) buffer, tt)
       go zero e = call-gives Call.call pair-named (files game plan) (buffer, tt) (pair-fine game plan e) (rw (le-leb (length (Text.reportOf game plan)) (length buffer) (omega (arith, file-most e))))
       go (suc k) e = sym (report-refused buffer (sym e) (λ z. omega arith))
 
@@ -111,18 +111,18 @@ module _ (game plan : List ℕ) (h : PairHeader) (o : PairOpened game plan h) wh
   abbrev q : PlanPair
   q = planPairOf (gameOf game) plan
 
-  denominators-fit : DenominatorsFit (h .header .«root_weight») (h .denominators .first) (h .denominators .second)
+  denominators-fit : DenominatorsFit (h .header .«root_weight») (h .denominators .d1) (h .denominators .d2)
   denominators-fit =
       let parts = pair-parts game plan .0 (o .none) in
       let file = plan-rules game plan (parts .1) in
-      rw (header-weight (h .header) game (o .header), first-is game plan h o, second-is game plan h o)
+      rw (header-weight (h .header) game (o .header), d1-is game plan h o, d2-is game plan h o)
       (record {
         root-some = game-rules game (o .game-none) .some-weight;
-        first-some = file .denominators one;
-        second-some = file .denominators two;
+        d1-some = file .denominators one;
+        d2-some = file .denominators two;
         root-few = game-limits game .root;
-        first-few = plan-limits g plan one .denominator;
-        second-few = plan-limits g plan two .denominator;
+        d1-few = plan-limits g plan one .denominator;
+        d2-few = plan-limits g plan two .denominator;
       })
 
   -- it is ready to be reported, with a move for every set
@@ -132,11 +132,11 @@ module _ (game plan : List ℕ) (h : PairHeader) (o : PairOpened game plan h) wh
       record { sets = same; long1 = omega (arith, same); long2 = omega (arith, same); denominators = denominators-fit }
 
 -- The report on what was evaluated and judged is the files'.
-pub report-agrees : (game plan : List ℕ) (h : PairHeader) {v : Values} {moves1 moves2 : List ℕ} → EvaluationOpened game plan h v moves1 moves2 → {d : Verdict} → d ≡ judged (v .value1) (v .value2) (v .best1) (v .best2) (h .denominators .first) (h .denominators .second) → pairReport game h v d moves1 moves2 ≡ Text.reportOf game plan
+pub report-agrees : (game plan : List ℕ) (h : PairHeader) {v : Values} {moves1 moves2 : List ℕ} → EvaluationOpened game plan h v moves1 moves2 → {d : Verdict} → d ≡ judged (v .value1) (v .value2) (v .best1) (v .best2) (h .denominators .d1) (h .denominators .d2) → pairReport game h v d moves1 moves2 ≡ Text.reportOf game plan
 unfolding Text.reportOf
 report-agrees game plan h {v} {moves1} {moves2} e j =
     let g = gameOf game in
     let q = planPairOf g plan in
     let o = e .opened in
-    rw (judged-as game plan h o (e .values) j, e .values, header-weight (h .header) game (o .header), first-is game plan h o, second-is game plan h o)
+    rw (judged-as game plan h o (e .values) j, e .values, header-weight (h .header) game (o .header), d1-is game plan h o, d2-is game plan h o)
     (report-is g q moves1 moves2 (strategy-lines g one (q two) moves1 (e .best1)) (strategy-lines g two (q one) moves2 (e .best2)))

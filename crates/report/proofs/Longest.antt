@@ -10,11 +10,12 @@ use lib.IntN.{pos}
 use lib.Signed.{ltZ}
 use Rattle.algebra.proofs.Searches.{firstTo-bound}
 use Rattle.algebra.proofs.Tests.{dec}
+use Rattle.model.specs.Limits.{countLimit}
 use Rattle.model.specs.Game.{Game, Player, one, two, other, owns, playerNumber}
 use Rattle.model.specs.Plan.{PlanPair, RealizationPlan}
 use Rattle.model.specs.Earnings.{valueBase, valueCount, value, againstBase, pureEarnings}
 use Rattle.model.specs.BestResponse.{worth, bestCount, bestValue, bestMove, bestResponse}
-use Rattle.model.specs.Verdict.{verdict, gain, deviates, equilibrium}
+use Rattle.model.specs.Verdict.{verdict, gain, deviationOf, equilibrium}
 use Rattle.model.specs.Report.{ascii, line, moveLine, valueLine, bestLine, gainAmount, verdictLines, report}
 use Rattle.model.specs.Rules.{GameRules}
 use Rattle.model.specs.Demand3.{BasesPositive}
@@ -32,9 +33,9 @@ best-few : (g : Game) (p : Player) (y : RealizationPlan) (h : ℕ) → bestMove 
 unfolding bestMove
 best-few g p y h = firstTo-bound (g .setMoves h) _
 
-module _ (g : Game) (few : g .sets ≤ 4095) (R : GameRules g) where
+module _ (g : Game) (few : g .sets ≤ countLimit) (R : GameRules g) where
   -- a strategy: at most 4,095 lines of at most 17 bytes
-  strategy-most : (p : Player) (y : RealizationPlan) → length (flatMap moveLine (bestResponse g p y)) ≤ 17 * 4095
+  strategy-most : (p : Player) (y : RealizationPlan) → length (flatMap moveLine (bestResponse g p y)) ≤ 17 * countLimit
   strategy-most p y = omega (arith, ap length (response-lines g p y), joined-most 17 (g .sets) (responseLine g p y) (λ h l. at-set h l (dec (owns g p h))))
     where
       at-set : (h : ℕ) → h < g .sets → Dec (T (owns g p h)) → length (responseLine g p y h) ≤ 17
@@ -50,8 +51,8 @@ module _ (g : Game) (few : g .sets ≤ 4095) (R : GameRules g) where
     unfolding bestLine bestValue amountLine bestCount worth pureEarnings ascii
     best-most p = amount-line-length (ascii "best ") (playerNumber p) (ascii " ") (bestCount g p (q (other p))) (againstBase g (q (other p))) (number-few p) (positive .pures p (λ h. 0)) (B .best p)
 
-    deviation-most : (p : Player) → length (verdictLines g q (deviates g q p)) ≤ 49 + 17 * 4095
-    unfolding verdictLines deviates gainAmount amountLine ascii
+    deviation-most : (p : Player) → length (verdictLines g q (deviationOf g q p)) ≤ 49 + 17 * countLimit
+    unfolding verdictLines deviationOf gainAmount amountLine ascii
     deviation-most p =
         let y = q (other p) in
         omega (
@@ -61,15 +62,15 @@ module _ (g : Game) (few : g .sets ≤ 4095) (R : GameRules g) where
           strategy-most p y,
         )
 
-    accepted-most : length (verdictLines g q equilibrium) ≤ 49 + 17 * 4095
+    accepted-most : length (verdictLines g q equilibrium) ≤ 49 + 17 * countLimit
     unfolding verdictLines line ascii
     accepted-most = omega arith
 
-    verdict-most : length (verdictLines g q (verdict g q)) ≤ 49 + 17 * 4095
+    verdict-most : length (verdictLines g q (verdict g q)) ≤ 49 + 17 * countLimit
     unfolding verdict
     verdict-most = go (ltZ (pos 0) (gain g q one)) (ltZ (pos 0) (gain g q two))
       where
-        go : (a b : Bool) → length (verdictLines g q (cond a (deviates g q one) (cond b (deviates g q two) equilibrium))) ≤ 49 + 17 * 4095
+        go : (a b : Bool) → length (verdictLines g q (cond a (deviationOf g q one) (cond b (deviationOf g q two) equilibrium))) ≤ 49 + 17 * countLimit
         go true b = deviation-most one
         go false true = deviation-most two
         go false false = accepted-most

@@ -11,11 +11,11 @@ use Rattle.algebra.proofs.Arrays.{placed-first}
 use Rattle.model.specs.Checks.{pairRefusal}
 use Rattle.model.specs.Report.{refusalLine, reportOf, printed}
 use Rattle.model.specs.Call.{Answer, given, refused, answerOf, afterCall, Outcome, outcome}
-use Rattle.model.specs.calls.Report.{report}
-use Rattle.writers.specs.Answers.{writeAnswered}
-use Rattle.writers.specs.declared.WriteAnswer.{WriteAnswer}
-use Rattle.writers.specs.declared.WriteAnswer.the-variants.{Written, Refused}
-use Rattle.text.specs.Text.{Room, Put}
+use Rattle.model.specs.calls.Report.{reportCall}
+use Rattle.checks.specs.Answers.{writeAnswered}
+use Rattle.checks.specs.declared.WriteAnswer.{WriteAnswer}
+use Rattle.checks.specs.declared.WriteAnswer.the-variants.{Written, Refused}
+use Rattle.text.specs.Text.{TextFits, Put}
 use Rattle.report.specs.Whole.{most}
 use Rattle.report.proofs.Calls.{printed-most, report-by-files}
 
@@ -25,13 +25,13 @@ module _ (game plan buffer : List ℕ) (long : most ≤ length buffer) where
   abbrev By : Answer ℕ → (after : List ℕ) → (refusal : ℕ) → Type 0
   By answer after k = (answer ≡ answerOf k (length (reportOf game plan))) × (after ≡ afterCall k (reportOf game plan) buffer)
 
-  by-files : {answer : Answer ℕ} {after : List ℕ} → outcome answer (after, tt) ≡ report game plan buffer → By answer after (pairRefusal game plan)
+  by-files : {answer : Answer ℕ} {after : List ℕ} → outcome answer (after, tt) ≡ reportCall game plan buffer → By answer after (pairRefusal game plan)
   by-files is =
       let e = is ∙ report-by-files game plan buffer long in
       (ap (λ (o : Outcome (ℕ ∷ []) ℕ). o .answer) e, ap (λ (o : Outcome (ℕ ∷ []) ℕ). o .buffers .0) e)
 
   -- a report is what is printed
-  pub printed-report : {answer : WriteAnswer} {after : List ℕ} {size : ℕ} → outcome (writeAnswered answer) (after, tt) ≡ report game plan buffer → answer ≡ Written size → Put 0 (printed game plan) buffer after size
+  pub printed-report : {answer : WriteAnswer} {after : List ℕ} {size : ℕ} → outcome (writeAnswered answer) (after, tt) ≡ reportCall game plan buffer → answer ≡ Written size → Put 0 (printed game plan) buffer after size
   unfolding printed afterCall
   printed-report {after = after} {size} is e = go (pairRefusal game plan) (by-files (rw e at is))
     where
@@ -39,7 +39,7 @@ module _ (game plan buffer : List ℕ) (long : most ≤ length buffer) where
       go zero b = let same : size ≡ length (reportOf game plan) = cc in record { buffer = b .1 ∙ sym (placed-first (reportOf game plan) buffer); place = omega (arith, same) }
       go (suc k) b = let z : _≡_ {A = ℕ} 0 1 = cc in absurd (omega arith)
 
-  module _ {answer : WriteAnswer} {after : List ℕ} {k : ℕ} (is : outcome (writeAnswered answer) (after, tt) ≡ report game plan buffer) (e : answer ≡ Refused k) where
+  module _ {answer : WriteAnswer} {after : List ℕ} {k : ℕ} (is : outcome (writeAnswered answer) (after, tt) ≡ reportCall game plan buffer) (e : answer ≡ Refused k) where
     -- for a refusal its line is, and the buffer is as it was
     line-printed : (printed game plan ≡ refusalLine k) × (after ≡ buffer)
     unfolding printed afterCall
@@ -49,7 +49,7 @@ module _ (game plan buffer : List ℕ) (long : most ≤ length buffer) where
         go zero b = let z : _≡_ {A = ℕ} 0 1 = cc in absurd (omega arith)
         go (suc n) b = let same : suc n ≡ k = cc in (rw (ne-eqb (suc n) 0 (λ z. omega arith)) (ap refusalLine same), b .1)
 
-    pub line-room : Room 0 (refusalLine k) after
+    pub line-room : TextFits 0 (refusalLine k) after
     line-room = record { fits = omega (arith, long, ap length (line-printed .0), ap length (line-printed .1), printed-most game plan) }
 
     pub printed-line : {last : List ℕ} {size : ℕ} → Put 0 (refusalLine k) after last size → Put 0 (printed game plan) buffer last size

@@ -8,7 +8,7 @@ use native.Mathlib.Decide.{ℕ-discrete}
 use native.Mathlib.Numerals.{add-one}
 use lib.Dec.{T}
 use lib.ListN.{length, length-append}
-use Rattle.algebra.specs.Arrays.{Holds}
+use Rattle.algebra.specs.Arrays.{item, Holds}
 use Rattle.algebra.specs.Bounded.{joinTo}
 use Rattle.algebra.proofs.Lists.{joinTo-suc, joinTo-cong}
 use Rattle.algebra.proofs.Tests.{dec, cond-yes, cond-no}
@@ -16,10 +16,9 @@ use Rattle.model.specs.Game.{playerNumber, Game, Player, owns, playerOf, player
 use Rattle.model.specs.Sequences.{Move}
 use Rattle.model.specs.Plan.{RealizationPlan}
 use Rattle.model.specs.BestResponse.{bestMove, bestAt, bestResponse}
-use Rattle.model.specs.Writing.{entry}
 use Rattle.model.specs.Report.{moveLine}
 use Rattle.form.specs.BestMoves.{ownBestMove}
-use Rattle.text.specs.Text.{Room, Put}
+use Rattle.text.specs.Text.{TextFits, Put}
 use Rattle.report.specs.Whole.{setLine, strategyLines}
 use Rattle.text.proofs.Puts.{put-none, room-then, put-then}
 
@@ -51,13 +50,13 @@ module _ (f : ℕ → List ℕ) {at : ℕ} {before : List ℕ} where
   unfolding joinTo
   joined-none = put-none at before
 
-  module _ {n bound : ℕ} (l : n < bound) (r : Room at (joinTo bound f) before) where
-    next-room : Room at (joinTo n f ++ f n) before
+  module _ {n bound : ℕ} (l : n < bound) (r : TextFits at (joinTo bound f) before) where
+    next-room : TextFits at (joinTo n f ++ f n) before
     next-room = record { fits = omega (arith, r .fits, joined-part f n bound l) }
 
     module _ {mid : List ℕ} {k : ℕ} (p : Put at (joinTo n f) before mid k) where
       -- there is room for the next text
-      pub joined-room : Room k (f n) mid
+      pub joined-room : TextFits k (f n) mid
       joined-room = room-then p (f n) next-room
 
       -- a turn: it is put
@@ -77,13 +76,13 @@ flatMap-joinTo f (suc n) k = flatMap-append f (joinTo n k) (k n) ∙ rw (flatMap
 
 module _ (g : Game) (p : Player) where
   -- the line of a set, by whose it is
-  pub line-own : (moves : List ℕ) (h : ℕ) → T (owns g p h) → setLine g p moves h ≡ moveLine (h, entry moves h)
+  pub line-own : (moves : List ℕ) (h : ℕ) → T (owns g p h) → setLine g p moves h ≡ moveLine (h, item moves h)
   unfolding setLine
-  line-own moves h o = cond-yes (owns g p h) (moveLine (h, entry moves h)) [] o
+  line-own moves h o = cond-yes (owns g p h) (moveLine (h, item moves h)) [] o
 
   pub line-other : (moves : List ℕ) (h : ℕ) → ¬ T (owns g p h) → setLine g p moves h ≡ []
   unfolding setLine
-  line-other moves h o = cond-no (owns g p h) (moveLine (h, entry moves h)) [] o
+  line-other moves h o = cond-no (owns g p h) (moveLine (h, item moves h)) [] o
 
   -- Moves by set that are p's best moves against y.
   module _ (y : RealizationPlan) where
@@ -110,6 +109,6 @@ module _ (g : Game) (p : Player) where
       where
         at-set : (h : ℕ) → h < g .sets → Dec (T (owns g p h)) → setLine g p moves h ≡ responseLine h
         at-set h l (yes o) =
-            let best : entry moves h ≡ bestMove g p y h = held .at h l ∙ cond-yes (owns g p h) (bestMove g p y h) 0 o in
+            let best : item moves h ≡ bestMove g p y h = held .at h l ∙ cond-yes (owns g p h) (bestMove g p y h) 0 o in
             line-own moves h o ∙ ap (λ (m : ℕ). moveLine (h, m)) best ∙ sym (response-own h o)
         at-set h l (no o) = line-other moves h o ∙ sym (response-other h o)

@@ -27,17 +27,17 @@ module _ (g : Game) (base : ℕ) {v : Verdict} (moves1 moves2 : List ℕ) where
   text-second {player} e n = rw (e, ne-eqb player 1 n)
 
 -- what the amounts are counted over, where D0 × D1 × D2 is n
-pub bases-are : (root first second : ℕ) {n : ℕ} → n ≡ root * (first * second) → record { values = n; best1 = root * second; best2 = root * first } ≡ basesOf root first second
+pub bases-are : (root d1 d2 : ℕ) {n : ℕ} → n ≡ root * (d1 * d2) → record { values = n; best1 = root * d2; best2 = root * d1 } ≡ basesOf root d1 d2
 unfolding basesOf
-bases-are root first second e = rw e
+bases-are root d1 d2 e = rw e
 
 -- a product of D0 with a denominator, and with both
-pub bases-fit : (root first second : ℕ) → DenominatorsFit root first second → BasesFit (basesOf root first second)
+pub bases-fit : (root d1 d2 : ℕ) → DenominatorsFit root d1 d2 → BasesFit (basesOf root d1 d2)
 unfolding basesOf
-bases-fit root first second D =
-    let both = NatL.mul-le-mul (D .first-few) (D .second-few) in
+bases-fit root d1 d2 D =
+    let both = NatL.mul-le-mul (D .d1-few) (D .d2-few) in
     record {
-      values = record { some = NatL.mul-pos (D .root-some) (NatL.mul-pos (D .first-some) (D .second-some)); few = NatL.mul-le-mul (D .root-few) both };
-      best1 = record { some = NatL.mul-pos (D .root-some) (D .second-some); few = omega (arith, NatL.mul-le-mul (D .root-few) (D .second-few)) };
-      best2 = record { some = NatL.mul-pos (D .root-some) (D .first-some); few = omega (arith, NatL.mul-le-mul (D .root-few) (D .first-few)) };
+      values = record { some = NatL.mul-pos (D .root-some) (NatL.mul-pos (D .d1-some) (D .d2-some)); few = NatL.mul-le-mul (D .root-few) both };
+      best1 = record { some = NatL.mul-pos (D .root-some) (D .d2-some); few = omega (arith, NatL.mul-le-mul (D .root-few) (D .d2-few)) };
+      best2 = record { some = NatL.mul-pos (D .root-some) (D .d1-some); few = omega (arith, NatL.mul-le-mul (D .root-few) (D .d1-few)) };
     }

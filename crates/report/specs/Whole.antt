@@ -5,12 +5,12 @@ use mathlib.Core.Bool.{cond}
 use mathlib.Core.List.{List, [], _++_}
 use lib.Dec.{eqb}
 use lib.ListN.{length}
+use Rattle.algebra.specs.Arrays.{item}
 use Rattle.algebra.specs.Bounded.{joinTo}
 use Rattle.model.specs.Game.{Game, gameOf, Player, one, two, owns, playerNumber}
 use Rattle.model.specs.Earnings.{Fraction, baseOf}
-use Rattle.model.specs.Writing.{entry}
 use Rattle.model.specs.Report.{ascii, line, moveLine}
-use Rattle.model.specs.Budget.{weightLimit}
+use Rattle.model.specs.Limits.{weightLimit, countLimit}
 use Rattle.plan.specs.declared.PairHeader.{PairHeader}
 use Rattle.form.specs.declared.Values.{Values}
 use Rattle.judgement.specs.declared.Verdict.{Verdict}
@@ -19,17 +19,17 @@ use Rattle.report.specs.declared.Bases.{Bases}
 use Rattle.text.specs.Lines.{BaseFits, fraction, amountLine}
 
 -- D0, D1 and D2 are above 0 and within their limits
-pub record DenominatorsFit (root first second : ℕ) : Type 0 where
+pub record DenominatorsFit (root d1 d2 : ℕ) : Type 0 where
   pub root-some : 0 < root
-  pub first-some : 0 < first
-  pub second-some : 0 < second
-  pub root-few : root ≤ 4095
-  pub first-few : first ≤ weightLimit
-  pub second-few : second ≤ weightLimit
+  pub d1-some : 0 < d1
+  pub d2-some : 0 < d2
+  pub root-few : root ≤ countLimit
+  pub d1-few : d1 ≤ weightLimit
+  pub d2-few : d2 ≤ weightLimit
 
 -- values over D0 × D1 × D2, best values over D0 × the other's D
-unfoldable pub basesOf : (root first second : ℕ) → Bases
-basesOf root first second = record { values = baseOf root first second; best1 = root * second; best2 = root * first }
+unfoldable pub basesOf : (root d1 d2 : ℕ) → Bases
+basesOf root d1 d2 = record { values = baseOf root d1 d2; best1 = root * d2; best2 = root * d1 }
 
 -- bases that amounts can be counted over
 pub record BasesFit (b : Bases) : Type 0 where
@@ -49,7 +49,7 @@ valuesText b v =
 
 -- the line of set h, where it is p's, with its move
 unfoldable pub setLine : Game → Player → (moves : List ℕ) → (h : ℕ) → List ℕ
-setLine g p moves h = cond (owns g p h) (moveLine (h, entry moves h)) []
+setLine g p moves h = cond (owns g p h) (moveLine (h, item moves h)) []
 
 -- "one line per set of that player, rising"
 unfoldable pub strategyLines : Game → Player → (moves : List ℕ) → List ℕ
@@ -62,10 +62,10 @@ deviationText g p gain moves = amountLine (ascii "deviation player ") (playerNum
 -- "then `accepted`, or the deviation": of player 1, or else of player 2
 unfoldable pub verdictText : Game → (base : ℕ) → Verdict → (moves1 moves2 : List ℕ) → List ℕ
 verdictText g base Equilibrium moves1 moves2 = line (ascii "accepted")
-verdictText g base (Deviation player gain) moves1 moves2 =
+verdictText g base (Deviation number gain) moves1 moves2 =
     let first = deviationText g one (fraction gain base) moves1 in
     let second = deviationText g two (fraction gain base) moves2 in
-    cond (eqb player 1) first second
+    cond (eqb number 1) first second
 
 -- the whole report
 unfoldable pub reportText : Game → Bases → Values → Verdict → (moves1 moves2 : List ℕ) → List ℕ
@@ -74,15 +74,15 @@ reportText g b v verdict moves1 moves2 = valuesText b v ++ verdictText g (b .val
 -- No report has more bytes. An amount has at most 24: a sign, 19 digits, a point and three digits. With it the line of
 -- a value has 33, that of a best value 32 and that of a gain 49; a set's line, with four digits and two, has 17.
 abbrev pub most : ℕ
-most = 2 * 33 + 2 * 32 + 49 + 17 * 4095
+most = 2 * 33 + 2 * 32 + 49 + 17 * countLimit
 
 -- the report of a pair that was read from its files
 abbrev pub pairReport : (game : List ℕ) → PairHeader → Values → Verdict → (moves1 moves2 : List ℕ) → List ℕ
-pairReport game pair v verdict moves1 moves2 = reportText (gameOf game) (basesOf (pair .header .«root_weight») (pair .denominators .first) (pair .denominators .second)) v verdict moves1 moves2
+pairReport game pair v verdict moves1 moves2 = reportText (gameOf game) (basesOf (pair .header .«root_weight») (pair .denominators .d1) (pair .denominators .d2)) v verdict moves1 moves2
 
 -- what `pairReport` needs: a move for every set of the game, and denominators that fit
 pub record PairReady (game : List ℕ) (pair : PairHeader) (moves1 moves2 : List ℕ) : Type 0 where
   pub sets : pair .header .sets ≡ gameOf game .sets
   pub long1 : pair .header .sets ≤ length moves1
   pub long2 : pair .header .sets ≤ length moves2
-  pub denominators : DenominatorsFit (pair .header .«root_weight») (pair .denominators .first) (pair .denominators .second)
+  pub denominators : DenominatorsFit (pair .header .«root_weight») (pair .denominators .d1) (pair .denominators .d2)

@@ -13,3 +13,6 @@ pub struct Bases {
 
 // No report has more bytes, and no line of a refusal.
 pub const MOST: usize = 69794;
+
+// No line of a refusal has more bytes: "refusal ", 20 digits and a line feed.
+pub const LINE: usize = 29;

@@ -5,8 +5,8 @@ ghost use Rattle.model.specs.Report.{printed};
 ghost use Rattle.text.specs.Text.{Put};
 ghost use Rattle.report.specs.Whole.{most};
 use super::reports::report;
+use checks::WriteAnswer;
 use text::lines::put_refusal;
-use writers::WriteAnswer;
 
 // Puts what the program prints for two files at the start of a buffer that is long enough for any.
 pub fn put_printed(game: &[u8], plan: &[u8], out: &mut [u8]) -> usize

@@ -3,23 +3,24 @@ ghost use mathlib.Core.Path.{_≡_};
 ghost use Prim.Native.Nat.{_≤_};
 ghost use lib.ListN.{length};
 ghost use Rattle.model.specs.Call.{outcome, run};
-ghost use Rattle.model.specs.calls.Report.{report};
+ghost use Rattle.model.specs.calls.Report.{reportCall};
 ghost use Rattle.model.specs.calls.RefusalLine.{refusalLine};
-ghost use Rattle.writers.specs.Answers.{writeAnswered};
+ghost use Rattle.checks.specs.Answers.{writeAnswered};
 ghost use Rattle.report.specs.Giving.{giving};
 ghost use Rattle.report.specs.Whole.{most, pairReport, PairReady};
 use super::MOST;
 use super::whole::write;
 use checks::Checked;
+use checks::WriteAnswer;
 use form::Values;
 use judgement::Verdict;
 use plan::PairHeader;
+use records::NodeRecord;
 use text::lines::put_refusal;
 use text::put_text;
 use verdict::PairEvaluated;
 use verdict::pairs;
 use verdict::verdicts::judge;
-use writers::WriteAnswer;
 
 // Puts a whole text at the start of the buffer; 18 where it is too short for it.
 fn give(text: &[u8], out: &mut [u8]) -> WriteAnswer
@@ -53,10 +54,10 @@ fn give_report(
 
 // The desk program's text for two files that fit, at the start of the buffer, and how many bytes it has; a refusal is 1 to 16, or 18.
 pub fn report(game: &[u8], plan: &[u8], out: &mut [u8]) -> WriteAnswer
-    ensures { λ r. ⌜ outcome (writeAnswered r) (now (out .exit), tt) ≡ report (now (game .entry)) (now (plan .entry)) (now (out .entry)) ⌝ }
+    ensures { λ r. ⌜ outcome (writeAnswered r) (now (out .exit), tt) ≡ reportCall (now (game .entry)) (now (plan .entry)) (now (out .entry)) ⌝ }
 {
-    let mut moves1 = [0usize; 4095];
-    let mut moves2 = [0usize; 4095];
+    let mut moves1 = [0usize; NodeRecord::NODES];
+    let mut moves2 = [0usize; NodeRecord::NODES];
     let evaluated = pairs::evaluate(game, plan, &mut moves1, &mut moves2);
     let PairEvaluated::Evaluated { pair, values } = evaluated else {
         return WriteAnswer::Refused(pairs::refusal(evaluated));
@@ -69,7 +70,7 @@ pub fn report(game: &[u8], plan: &[u8], out: &mut [u8]) -> WriteAnswer
 pub fn refusal_line(number: u64, out: &mut [u8]) -> WriteAnswer
     ensures { λ r. ⌜ outcome (writeAnswered r) (now (out .exit), tt) ≡ refusalLine number (now (out .entry)) ⌝ }
 {
-    let mut text = [0u8; 29];
+    let mut text = [0u8; super::LINE];
     let size = put_refusal(number, &mut text, 0);
     give(&text[..size], out)
 }

@@ -3,7 +3,7 @@ ghost use mathlib.Core.Path.{_≡_};
 ghost use Prim.Native.Nat.{_≤_, _<_};
 ghost use lib.ListN.{length};
 ghost use Rattle.model.specs.Game.{gameOf, playerOf};
-ghost use Rattle.text.specs.Text.{Room, Put};
+ghost use Rattle.text.specs.Text.{TextFits, Put};
 ghost use Rattle.text.specs.Lines.{BaseFits, fraction};
 ghost use Rattle.report.specs.Whole.{DenominatorsFit, BasesFit, basesOf, bothLines, valuesText, deviationText, verdictText, pairReport, PairReady};
 use super::Bases;
@@ -17,15 +17,15 @@ use verdict::verdicts::base;
 
 // What the amounts of a pair are counted over.
 fn bases(pair: PairHeader) -> Bases
-    requires { ⌜ DenominatorsFit (pair .header .«root_weight») (pair .denominators .first) (pair .denominators .second) ⌝ }
-    ensures { λ r. ⌜ r ≡ basesOf (pair .header .«root_weight») (pair .denominators .first) (pair .denominators .second) ⌝ }
+    requires { ⌜ DenominatorsFit (pair .header .«root_weight») (pair .denominators .d1) (pair .denominators .d2) ⌝ }
+    ensures { λ r. ⌜ r ≡ basesOf (pair .header .«root_weight») (pair .denominators .d1) (pair .denominators .d2) ⌝ }
 {
     let header = pair.header;
     let denominators = pair.denominators;
     Bases {
         values: base(pair),
-        best1: header.root_weight * denominators.second,
-        best2: header.root_weight * denominators.first,
+        best1: header.root_weight * denominators.d2,
+        best2: header.root_weight * denominators.d1,
     }
 }
 
@@ -39,7 +39,7 @@ fn put_both(
     out: &mut [u8],
     at: usize,
 ) -> usize
-    requires { ⌜ BaseFits base1 × BaseFits base2 × Room at (bothLines (now label) (fraction count1 base1) (fraction count2 base2)) (now out) ⌝ }
+    requires { ⌜ BaseFits base1 × BaseFits base2 × TextFits at (bothLines (now label) (fraction count1 base1) (fraction count2 base2)) (now out) ⌝ }
     ensures { λ r. ⌜ Put at (bothLines (now (label .entry)) (fraction count1 base1) (fraction count2 base2)) (now (out .entry)) (now (out .exit)) r ⌝ }
 {
     let past_first = put_amount_line(label, 1, b" ", count1, base1, out, at);
@@ -48,7 +48,7 @@ fn put_both(
 
 // Puts values and best values.
 fn put_values(values: Values, bases: Bases, out: &mut [u8], at: usize) -> usize
-    requires { ⌜ BasesFit bases × Room at (valuesText bases values) (now out) ⌝ }
+    requires { ⌜ BasesFit bases × TextFits at (valuesText bases values) (now out) ⌝ }
     ensures { λ r. ⌜ Put at (valuesText bases values) (now (out .entry)) (now (out .exit)) r ⌝ }
 {
     let past_values = put_both(
@@ -82,7 +82,7 @@ fn put_deviation(
     out: &mut [u8],
     at: usize,
 ) -> usize
-    requires { ⌜ (sets ≡ gameOf (now game) .sets) × (player < 2) × (sets ≤ length (now moves)) × BaseFits base × Room at (deviationText (gameOf (now game)) (playerOf player) (fraction gain base) (now moves)) (now out) ⌝ }
+    requires { ⌜ (sets ≡ gameOf (now game) .sets) × (player < 2) × (sets ≤ length (now moves)) × BaseFits base × TextFits at (deviationText (gameOf (now game)) (playerOf player) (fraction gain base) (now moves)) (now out) ⌝ }
     ensures { λ r. ⌜ Put at (deviationText (gameOf (now (game .entry))) (playerOf player) (fraction gain base) (now (moves .entry))) (now (out .entry)) (now (out .exit)) r ⌝ }
 {
     let past_gain = put_amount_line(
@@ -108,13 +108,17 @@ fn put_verdict(
     out: &mut [u8],
     at: usize,
 ) -> usize
-    requires { ⌜ (sets ≡ gameOf (now game) .sets) × (sets ≤ length (now moves1)) × (sets ≤ length (now moves2)) × BaseFits base × Room at (verdictText (gameOf (now game)) base verdict (now moves1) (now moves2)) (now out) ⌝ }
+    requires { ⌜ (sets ≡ gameOf (now game) .sets) × (sets ≤ length (now moves1)) × (sets ≤ length (now moves2)) × BaseFits base × TextFits at (verdictText (gameOf (now game)) base verdict (now moves1) (now moves2)) (now out) ⌝ }
     ensures { λ r. ⌜ Put at (verdictText (gameOf (now (game .entry))) base verdict (now (moves1 .entry)) (now (moves2 .entry))) (now (out .entry)) (now (out .exit)) r ⌝ }
 {
-    let Verdict::Deviation { player, gain } = verdict else {
+    let Verdict::Deviation {
+        player_number,
+        gain,
+    } = verdict
+    else {
         return put_accepted(out, at);
     };
-    if player == 1 {
+    if player_number == 1 {
         return put_deviation(game, sets, 0, gain, base, moves1, out, at);
     }
     put_deviation(game, sets, 1, gain, base, moves2, out, at)
@@ -130,7 +134,7 @@ pub fn write(
     moves2: &[usize],
     out: &mut [u8],
 ) -> usize
-    requires { ⌜ PairReady (now game) pair (now moves1) (now moves2) × Room 0 (pairReport (now game) pair values verdict (now moves1) (now moves2)) (now out) ⌝ }
+    requires { ⌜ PairReady (now game) pair (now moves1) (now moves2) × TextFits 0 (pairReport (now game) pair values verdict (now moves1) (now moves2)) (now out) ⌝ }
     ensures { λ r. ⌜ Put 0 (pairReport (now (game .entry)) pair values verdict (now (moves1 .entry)) (now (moves2 .entry))) (now (out .entry)) (now (out .exit)) r ⌝ }
 {
     let header = pair.header;

@@ -6,9 +6,8 @@ use native.Mathlib.Omega.{arith}
 use native.Mathlib.Decide.{ℕ-discrete}
 use lib.IntN.{ℤ, pos}
 use lib.ListN.{length}
-use Rattle.algebra.specs.Arrays.{over}
+use Rattle.algebra.specs.Arrays.{item, over}
 use Rattle.algebra.proofs.Fillings.{over-is}
-use Rattle.model.specs.Writing.{entry}
 use Rattle.responses.specs.PlayerTables.{PlayerTables, tableWorth, OwnSet, Ready}
 use Rattle.responses.specs.Stored.{Right, RightFrom, right-from, SequenceStored}
 
@@ -17,18 +16,18 @@ module _ {t : PlayerTables} {steps : ℕ} {worth : List ℤ} where
   right : {s : ℕ} → RightFrom t steps worth s → Right t steps worth s
   right (right-from r later) = r
 
-  onward : {s : ℕ} → RightFrom t steps worth s → (h m : ℕ) → h < length (t .lead) → entry (t .lead) h ≡ s → m < entry (t .count) h → RightFrom t steps worth (entry (t .start) h + m)
+  onward : {s : ℕ} → RightFrom t steps worth s → (h m : ℕ) → h < length (t .lead) → item (t .lead) h ≡ s → m < item (t .count) h → RightFrom t steps worth (item (t .start) h + m)
   onward (right-from r later) = later
 
   module _ {nodes : ℕ} (R : Ready t nodes) (o : RightFrom t steps worth 0) where
     -- it is right from each sequence on that leads to a set, by the first nodes of the sets on the way
-    leads : (k h : ℕ) → OwnSet t h → entry (t .node) h < k → RightFrom t steps worth (entry (t .lead) h)
+    leads : (k h : ℕ) → OwnSet t h → item (t .node) h < k → RightFrom t steps worth (item (t .lead) h)
     leads zero h own b = absurd (omega arith)
     leads (suc k) h own b =
-        elim (ℕ-discrete (entry (t .lead) h) 0) [
+        elim (ℕ-discrete (item (t .lead) h) 0) [
           | yes e ↦ rw e o
           | no e ↦
-              let p = R .reached (entry (t .lead) h) (own .led) (omega (arith, e)) in
+              let p = R .reached (item (t .lead) h) (own .led) (omega (arith, e)) in
               rw (p .is) (onward (leads k (p .set) (p .own) (omega (arith, R .node-rises (p .set) (p .move) h (p .own) (p .one-of) (own .is-set) (p .is)))) (p .set) (p .move) (p .own .is-set) refl (p .one-of))
         ]
 

@@ -8,11 +8,11 @@ use native.Mathlib.Decide.{ℕ-discrete}
 use lib.Dec.{T, ltb, ltb→lt, lt→ltb}
 use lib.IntN.{ℤ}
 use lib.Signed.{ltZ, leZ, _≤ℤ_, _<ℤ_, ltZ-yes, ltZ-no, leZ-yes, ≤ℤ-refl, <ℤ-≤ℤ-trans, clashℤ}
-use Rattle.algebra.specs.Bounded.{maxUpTo, firstTo}
+use Rattle.algebra.specs.Arrays.{item}
+use Rattle.algebra.specs.Bounded.{maxThrough, firstTo}
 use Rattle.algebra.proofs.Tests.{cond-yes, cond-no}
 use Rattle.algebra.proofs.Integers.{<ℤ→≤ℤ, to-lt, lt-to, le-to}
-use Rattle.algebra.proofs.Searches.{firstTo-found, firstTo-least, maxUpTo-above, maxUpTo-met}
-use Rattle.model.specs.Writing.{entry}
+use Rattle.algebra.proofs.Searches.{firstTo-found, firstTo-least, maxThrough-above, maxThrough-met}
 use Rattle.responses.specs.BestMoves.{firstGreatest, bestStored, bestOf, MovesStored}
 
 -- r is the least number below n at which f is greatest
@@ -66,23 +66,23 @@ module _ (f : ℕ → ℤ) where
   pub foremost-is : (n r : ℕ) → Foremost f n r → r ≡ firstGreatest f n
   unfolding firstGreatest
   foremost-is n r o =
-      let test : ℕ → Bool = λ m. leZ (maxUpTo (pred n) f) (f m) in
-      let top = maxUpTo-met (pred n) f in
+      let test : ℕ → Bool = λ m. leZ (maxThrough (pred n) f) (f m) in
+      let top = maxThrough-met (pred n) f in
       let passes : T (test r) = subst (λ (z : ℤ). T (leZ z (f r))) (sym (top .2)) (o .greatest (top .0) (omega (arith, top .1, o .inside)) .le) in
       let found = firstTo-found n test r (o .inside) passes in
-      let below = by-contra r (firstTo n test) (λ l. clashℤ (<ℤ-≤ℤ-trans (o .least (firstTo n test) l) (maxUpTo-above (pred n) f r (omega (arith, o .inside)))) (leZ-yes (found .0))) in
+      let below = by-contra r (firstTo n test) (λ l. clashℤ (<ℤ-≤ℤ-trans (o .least (firstTo n test) l) (maxThrough-above (pred n) f r (omega (arith, o .inside)))) (leZ-yes (found .0))) in
       omega (arith, firstTo-least n test r (o .inside) passes)
 
 module _ (worth : List ℤ) (lead start count : List ℕ) (sequences : ℕ) where
   -- the best move of a set of the player's
-  pub best-own : (h : ℕ) {r : ℕ} → entry lead h < sequences → r ≡ bestStored worth (entry start h) (entry count h) → r ≡ bestOf worth lead start count sequences h
+  pub best-own : (h : ℕ) {r : ℕ} → item lead h < sequences → r ≡ bestStored worth (item start h) (item count h) → r ≡ bestOf worth lead start count sequences h
   unfolding bestOf
-  best-own h b e = e ∙ sym (cond-yes (ltb (entry lead h) sequences) (bestStored worth (entry start h) (entry count h)) 0 (lt→ltb (entry lead h) sequences b))
+  best-own h b e = e ∙ sym (cond-yes (ltb (item lead h) sequences) (bestStored worth (item start h) (item count h)) 0 (lt→ltb (item lead h) sequences b))
 
   -- and what stands for the other player's
-  pub best-other : (h : ℕ) → sequences ≤ entry lead h → 0 ≡ bestOf worth lead start count sequences h
+  pub best-other : (h : ℕ) → sequences ≤ item lead h → 0 ≡ bestOf worth lead start count sequences h
   unfolding bestOf
-  best-other h b = sym (cond-no (ltb (entry lead h) sequences) (bestStored worth (entry start h) (entry count h)) 0 (λ t. omega (arith, ltb→lt (entry lead h) sequences t)))
+  best-other h b = sym (cond-no (ltb (item lead h) sequences) (bestStored worth (item start h) (item count h)) 0 (λ t. omega (arith, ltb→lt (item lead h) sequences t)))
 
   -- where the worths of all sets' moves are stored, those of the first are
   pub stored-below : {n sets : ℕ} → n ≤ sets → MovesStored worth lead start count sequences sets → MovesStored worth lead start count sequences n

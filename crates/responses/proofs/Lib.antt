@@ -1,5 +1,5 @@
 pub mod Everywhere
 pub mod Greatest
 pub mod Parts
-pub mod Storing
+pub mod Stored
 pub mod TableLaws

@@ -6,8 +6,7 @@ use native.Mathlib.Omega.{arith}
 use lib.IntN.{ℤ}
 use lib.ListN.{length, take}
 use lib.Seq.{length-take-le, getD-take}
-use Rattle.algebra.specs.Arrays.{over}
-use Rattle.model.specs.Writing.{entry}
+use Rattle.algebra.specs.Arrays.{item, over}
 use Rattle.slices.specs.Sums.{sumAt}
 use Rattle.responses.specs.PlayerTables.{tablesFor, tableWorth, OwnSet, Ready}
 use Rattle.responses.specs.BestMoves.{MovesStored}
@@ -34,7 +33,7 @@ module _ {leaves sequences sets nodes : ℕ} {own opponent chance : List ℕ} {p
   leads = length-take-le sets lead (Q .lead-long)
 
   -- the sets that sequences of the player's lead to are his
-  own-set : (h : ℕ) → h < sets → entry lead h < sequences → OwnSet (tablesAgainst leaves sequences sets own opponent chance payoffs y head next lead start count node sums) h
+  own-set : (h : ℕ) → h < sets → item lead h < sequences → OwnSet (tablesAgainst leaves sequences sets own opponent chance payoffs y head next lead start count node sums) h
   own-set h l o = record { is-set = omega (arith, leads); led = omega (arith, heads, getD-take sets lead h 0 l) }
 
   -- there is room for the worths of their moves
@@ -43,7 +42,7 @@ module _ {leaves sequences sets nodes : ℕ} {own opponent chance : List ℕ} {p
     some-move = λ h l o. Q .ready .some-move h (own-set h l o);
     stored = λ h l o.
         let some = Q .ready .some-move h (own-set h l o) in
-        omega (arith, e, heads, some, Q .worth-long, Q .ready .move-in h (pred (entry count h)) (own-set h l o) (omega (arith, some)));
+        omega (arith, e, heads, some, Q .worth-long, Q .ready .move-in h (pred (item count h)) (own-set h l o) (omega (arith, some)));
   }
 
   -- and for the moves' numbers

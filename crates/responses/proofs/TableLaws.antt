@@ -8,11 +8,11 @@ use native.Mathlib.Numerals.{add-one}
 use lib.Dec.{T, eqb→eq}
 use lib.IntN.{ℤ, pos, _+ℤ_, +ℤ-assoc, +ℤ-idr}
 use lib.ListN.{length}
-use Rattle.algebra.specs.Bounded.{sumTo, sumWhere, larger, maxUpTo}
+use Rattle.algebra.specs.Arrays.{item, itemZ}
+use Rattle.algebra.specs.Bounded.{sumTo, sumWhere, larger, maxThrough}
 use Rattle.algebra.proofs.Tests.{cond-yes, cond-no, eqb-make}
-use Rattle.model.specs.Writing.{entry, entryZ}
 use Rattle.responses.specs.PlayerTables.{PlayerTables, tableLeads, tableGreatest, tablePartial, tableWorth, Ready}
-use Rattle.slices.proofs.Chaining.{IsFirst, from-first, next-led}
+use Rattle.slices.proofs.ChainLaws.{IsFirst, from-first, next-led}
 
 -- a number that passes is added
 where-more : (k : ℕ) (test : ℕ → Bool) (f : ℕ → ℤ) → T (test k) → sumWhere (suc k) test f ≡ sumWhere k test f +ℤ f k
@@ -31,34 +31,34 @@ where-skip a (suc d) test f none = rw add-suc (where-less (a + d) test f (none (
 
 module _ (t : PlayerTables) (w : ℕ → ℤ) (s : ℕ) where
   -- with no set
-  pub partial-none : tablePartial t w s 0 ≡ entryZ (t .sums) s
+  pub partial-none : tablePartial t w s 0 ≡ itemZ (t .sums) s
   unfolding tablePartial sumWhere sumTo
-  partial-none = +ℤ-idr (entryZ (t .sums) s)
+  partial-none = +ℤ-idr (itemZ (t .sums) s)
 
   -- with a set that s leads to
-  pub partial-led : (h : ℕ) → entry (t .lead) h ≡ s → tablePartial t w s (h + 1) ≡ tablePartial t w s h +ℤ w h
+  pub partial-led : (h : ℕ) → item (t .lead) h ≡ s → tablePartial t w s (h + 1) ≡ tablePartial t w s h +ℤ w h
   unfolding tablePartial tableLeads
   partial-led h e =
       rw (add-one h)
-      (ap (λ (z : ℤ). entryZ (t .sums) s +ℤ z) (where-more h (tableLeads t s) w (eqb-make (entry (t .lead) h) s e))
-      ∙ sym (+ℤ-assoc (entryZ (t .sums) s) (sumWhere h (tableLeads t s) w) (w h)))
+      (ap (λ (z : ℤ). itemZ (t .sums) s +ℤ z) (where-more h (tableLeads t s) w (eqb-make (item (t .lead) h) s e))
+      ∙ sym (+ℤ-assoc (itemZ (t .sums) s) (sumWhere h (tableLeads t s) w) (w h)))
 
   -- with sets that it does not lead to
-  pub partial-skip : (a b : ℕ) → a ≤ b → ((h : ℕ) → a ≤ h → h < b → ¬ (entry (t .lead) h ≡ s)) → tablePartial t w s b ≡ tablePartial t w s a
+  pub partial-skip : (a b : ℕ) → a ≤ b → ((h : ℕ) → a ≤ h → h < b → ¬ (item (t .lead) h ≡ s)) → tablePartial t w s b ≡ tablePartial t w s a
   unfolding tablePartial tableLeads
   partial-skip a b l none =
       let e : b ≡ a + (b - a) = omega arith in
-      ap (λ (z : ℤ). entryZ (t .sums) s +ℤ z)
+      ap (λ (z : ℤ). itemZ (t .sums) s +ℤ z)
       (ap (λ (k : ℕ). sumWhere k (tableLeads t s) w) e
-      ∙ where-skip a (b - a) (tableLeads t s) w (λ h u v q. none h u (omega arith) (eqb→eq (entry (t .lead) h) s q)))
+      ∙ where-skip a (b - a) (tableLeads t s) w (λ h u v q. none h u (omega arith) (eqb→eq (item (t .lead) h) s q)))
 
 -- the greatest of one, and of one more
-pub greatest-one : (f : ℕ → ℤ) → maxUpTo 0 f ≡ f 0
-unfolding maxUpTo
+pub greatest-one : (f : ℕ → ℤ) → maxThrough 0 f ≡ f 0
+unfolding maxThrough
 greatest-one f = refl
 
-pub greatest-more : (f : ℕ → ℤ) (m : ℕ) → 0 < m → maxUpTo m f ≡ larger (maxUpTo (pred m) f) (f m)
-unfolding maxUpTo
+pub greatest-more : (f : ℕ → ℤ) (m : ℕ) → 0 < m → maxThrough m f ≡ larger (maxThrough (pred m) f) (f m)
+unfolding maxThrough
 greatest-more f zero l = absurd (omega arith)
 greatest-more f (suc m) l = refl
 
@@ -69,17 +69,17 @@ module _ (t : PlayerTables) where
   worth-partial steps s = refl
 
   -- a set's worth is that of its worthiest move
-  pub set-greatest : (w : ℕ → ℤ) (h : ℕ) → tableGreatest t w h ≡ maxUpTo (pred (entry (t .count) h)) (λ m. w (entry (t .start) h + m))
+  pub set-greatest : (w : ℕ → ℤ) (h : ℕ) → tableGreatest t w h ≡ maxThrough (pred (item (t .count) h)) (λ m. w (item (t .start) h + m))
   unfolding tableGreatest
   set-greatest w h = refl
 
 module _ {t : PlayerTables} {nodes : ℕ} (R : Ready t nodes) where
   -- where the chain of s begins
-  pub head-first : (s : ℕ) → s < length (t .head) → IsFirst (t .lead) (length (t .lead)) s 0 (entry (t .head) s)
+  pub head-first : (s : ℕ) → s < length (t .head) → IsFirst (t .lead) (length (t .lead)) s 0 (item (t .head) s)
   head-first s b = rw (R .head-is s b) (from-first (t .lead) (length (t .lead)) s 0 (omega arith))
 
   -- and how it goes on from a set that s leads to
-  pub next-first : (s h : ℕ) → s < length (t .head) → h < length (t .lead) → entry (t .lead) h ≡ s → IsFirst (t .lead) (length (t .lead)) s (h + 1) (entry (t .next) h)
+  pub next-first : (s h : ℕ) → s < length (t .head) → h < length (t .lead) → item (t .lead) h ≡ s → IsFirst (t .lead) (length (t .lead)) s (h + 1) (item (t .next) h)
   next-first s h b l e =
-      let at : entry (t .next) h ≡ _ = R .next-is h l ∙ next-led (t .lead) (length (t .lead)) (length (t .head)) h (omega arith) in
+      let at : item (t .next) h ≡ _ = R .next-is h l ∙ next-led (t .lead) (length (t .lead)) (length (t .head)) h (omega arith) in
       rw (at, e) (from-first (t .lead) (length (t .lead)) s (h + 1) (omega arith))

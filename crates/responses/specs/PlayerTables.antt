@@ -9,8 +9,9 @@ use lib.IntN.{ℤ, pos, _+ℤ_}
 use lib.ListN.{length, take}
 use mir.Syntax.{w64}
 use mir.Val.{SFits}
-use Rattle.algebra.specs.Bounded.{sumWhere, maxUpTo}
-use Rattle.model.specs.Writing.{entry, entryZ}
+use Rattle.algebra.specs.Arrays.{item, itemZ}
+use Rattle.algebra.specs.Bounded.{sumWhere, maxThrough}
+use Rattle.model.specs.Limits.{countLimit}
 use Rattle.slices.specs.Chains.{firstFrom, nextOf}
 
 -- The player has as many sequences as `head` has entries, and the game as many sets as `lead` has; other lists may be longer.
@@ -30,15 +31,15 @@ tables sums head next lead start count node = record { sums = sums; head = head;
 module _ (t : PlayerTables) where
   -- sequence s leads to set h
   unfoldable pub tableLeads : (s h : ℕ) → Bool
-  tableLeads s h = eqb (entry (t .lead) h) s
+  tableLeads s h = eqb (item (t .lead) h) s
 
   -- a set's worth, by the worth of sequences
   unfoldable pub tableGreatest : (ℕ → ℤ) → ℕ → ℤ
-  tableGreatest worthOf h = maxUpTo (pred (entry (t .count) h)) (λ m. worthOf (entry (t .start) h + m))
+  tableGreatest worthOf h = maxThrough (pred (item (t .count) h)) (λ m. worthOf (item (t .start) h + m))
 
   -- what the leaves at s and the first k sets that it leads to are worth
   unfoldable pub tablePartial : (ℕ → ℤ) → (s k : ℕ) → ℤ
-  tablePartial setWorth s k = entryZ (t .sums) s +ℤ sumWhere k (tableLeads s) setWorth
+  tablePartial setWorth s k = itemZ (t .sums) s +ℤ sumWhere k (tableLeads s) setWorth
 
   -- a sequence's worth, counting only leaves that are fewer than `steps` own moves on
   unfoldable pub tableWorth : (steps : ℕ) → ℕ → ℤ
@@ -52,39 +53,39 @@ tablesFor sequences sets sums head next lead start count node = tables sums (tak
 -- h is a set of the player's: a sequence of his leads to it
 pub record OwnSet (t : PlayerTables) (h : ℕ) : Type 0 where
   pub is-set : h < length (t .lead)
-  pub led : entry (t .lead) h < length (t .head)
+  pub led : item (t .lead) h < length (t .head)
 
 -- s is the sequence that one of the player's moves gives
 pub record MoveOf (t : PlayerTables) (s : ℕ) : Type 0 where
   pub set : ℕ
   pub move : ℕ
   pub own : OwnSet t set
-  pub one-of : move < entry (t .count) set
-  pub is : s ≡ entry (t .start) set + move
+  pub one-of : move < item (t .count) set
+  pub is : s ≡ item (t .start) set + move
 
 -- What the worth recursion asks of its tables, in a game of so many nodes.
 pub record Ready (t : PlayerTables) (nodes : ℕ) : Type 0 where
-  pub few-nodes : nodes ≤ 4095
+  pub few-nodes : nodes ≤ countLimit
   pub sums-long : length (t .head) ≤ length (t .sums)
   pub next-long : length (t .lead) ≤ length (t .next)
   pub start-long : length (t .lead) ≤ length (t .start)
   pub count-long : length (t .lead) ≤ length (t .count)
   pub node-long : length (t .lead) ≤ length (t .node)
   -- the sets that a sequence leads to are a chain
-  pub head-is : (s : ℕ) → s < length (t .head) → entry (t .head) s ≡ firstFrom (t .lead) (length (t .lead)) s 0
-  pub next-is : (h : ℕ) → h < length (t .lead) → entry (t .next) h ≡ nextOf (t .lead) (length (t .lead)) (length (t .head)) h
+  pub head-is : (s : ℕ) → s < length (t .head) → item (t .head) s ≡ firstFrom (t .lead) (length (t .lead)) s 0
+  pub next-is : (h : ℕ) → h < length (t .lead) → item (t .next) h ≡ nextOf (t .lead) (length (t .lead)) (length (t .head)) h
   -- each set of the player's has a move, and each of its moves is a sequence of his
-  pub some-move : (h : ℕ) → OwnSet t h → 0 < entry (t .count) h
-  pub move-in : (h m : ℕ) → OwnSet t h → m < entry (t .count) h → entry (t .start) h + m < length (t .head)
+  pub some-move : (h : ℕ) → OwnSet t h → 0 < item (t .count) h
+  pub move-in : (h m : ℕ) → OwnSet t h → m < item (t .count) h → item (t .start) h + m < length (t .head)
   -- and each sequence of his but the empty one, number 0, is such a move
   pub some-sequence : 0 < length (t .head)
   pub reached : (s : ℕ) → s < length (t .head) → 0 < s → MoveOf t s
   -- its first node is a node, and comes before those of the sets that its moves lead to
-  pub node-in : (h : ℕ) → OwnSet t h → entry (t .node) h < nodes
-  pub node-rises : (h m k : ℕ) → OwnSet t h → m < entry (t .count) h → k < length (t .lead) → entry (t .lead) k ≡ entry (t .start) h + m → entry (t .node) h < entry (t .node) k
+  pub node-in : (h : ℕ) → OwnSet t h → item (t .node) h < nodes
+  pub node-rises : (h m k : ℕ) → OwnSet t h → m < item (t .count) h → k < length (t .lead) → item (t .lead) k ≡ item (t .start) h + m → item (t .node) h < item (t .node) k
   -- each sum stays within an i64
   pub fits : (steps s k : ℕ) → s < length (t .head) → k ≤ length (t .lead) → SFits w64 (tablePartial t (tableGreatest t (tableWorth t steps)) s k)
 
 -- each set that sequence s leads to has its first node at `floor` or later
 pub record From (t : PlayerTables) (s floor : ℕ) : Type 0 where
-  pub from : (h : ℕ) → h < length (t .lead) → entry (t .lead) h ≡ s → floor ≤ entry (t .node) h
+  pub from : (h : ℕ) → h < length (t .lead) → item (t .lead) h ≡ s → floor ≤ item (t .node) h

@@ -3,14 +3,13 @@ ghost use mathlib.Core.Path.{_≡_};
 ghost use Prim.Native.Nat.{ℕ, suc, _+_, _≤_, _<_};
 ghost use lib.ListN.{length};
 ghost use Rattle.algebra.specs.Bounded.{larger};
-ghost use Rattle.algebra.specs.Arrays.{over};
-ghost use Rattle.model.specs.Writing.{entry};
+ghost use Rattle.algebra.specs.Arrays.{item, over};
 ghost use Rattle.responses.specs.PlayerTables.{tables, tablesFor, tableWorth, Ready, OwnSet, From};
 ghost use Rattle.responses.specs.BestMoves.{bestStored, bestOf, MovesStored};
 ghost use Rattle.responses.specs.Stored.{SequenceStored, SetStored};
 
 // The larger of two numbers.
-fn larger(a: i64, b: i64) -> i64
+fn maximum(a: i64, b: i64) -> i64
     ensures { λ r. ⌜ r ≡ larger a b ⌝ }
 {
     if a < b { b } else { a }
@@ -58,7 +57,7 @@ fn set_worth(
     nodes: usize,
 ) -> i64
     requires { ⌜ Ready (tables (now sums) (now head) (now next) (now lead) (now start) (now count) (now node)) nodes × OwnSet (tables (now sums) (now head) (now next) (now lead) (now start) (now count) (now node)) h × (length (now head) ≤ length (now worth)) ⌝ }
-    ensures { λ r. ⌜ ((steps : ℕ) → nodes ≤ steps + entry (now (node .entry)) h → SetStored (tables (now (sums .entry)) (now (head .entry)) (now (next .entry)) (now (lead .entry)) (now (start .entry)) (now (count .entry)) (now (node .entry))) steps h (now (worth .entry)) (now (worth .exit)) r) ⌝ }
+    ensures { λ r. ⌜ ((steps : ℕ) → nodes ≤ steps + item (now (node .entry)) h → SetStored (tables (now (sums .entry)) (now (head .entry)) (now (next .entry)) (now (lead .entry)) (now (start .entry)) (now (count .entry)) (now (node .entry))) steps h (now (worth .entry)) (now (worth .exit)) r) ⌝ }
 {
     let s = start[h];
     let moves = count[h];
@@ -91,7 +90,7 @@ fn set_worth(
             floor,
             nodes,
         );
-        top = larger(top, other);
+        top = maximum(top, other);
     }
     top
 }

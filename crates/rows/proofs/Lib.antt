@@ -1,3 +1,3 @@
-pub mod Answered
-pub mod Filling
+pub mod Answers
 pub mod Locals
+pub mod Rows

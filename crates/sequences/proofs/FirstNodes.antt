@@ -15,7 +15,7 @@ use Rattle.algebra.proofs.Searches.{firstTo-bound, firstTo-below}
 use Rattle.algebra.proofs.Fillings.{over-at, over-cong, over-again, over-set}
 use Rattle.model.specs.Game.{Game, gameOf, isDecision, inSet}
 use Rattle.model.specs.Sequences.{firstNode}
-use Rattle.records.specs.declared.NodeRecord.{NodeRecord}
+use Rattle.records.specs.declared.game.NodeRecord.{NodeRecord}
 use Rattle.records.specs.Records.{NodeRead}
 use Rattle.records.specs.Rooted.{Rooted}
 

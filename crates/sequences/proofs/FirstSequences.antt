@@ -7,23 +7,23 @@ use native.Mathlib.Omega.{arith}
 use native.Mathlib.Numerals.{add-one}
 use lib.Dec.{eqb, eqb→eq}
 use lib.ListN.{getD, set, replicate, getD-replicate}
-use Rattle.algebra.specs.Bounded.{countTo}
+use Rattle.algebra.specs.Bounded.{totalTo}
 use Rattle.algebra.specs.Arrays.{Holds}
 use Rattle.algebra.proofs.Tests.{cond-yes, cond-no, eqb-make}
-use Rattle.algebra.proofs.Counts.{only, only-most, count-suc, count-cong, count-bound}
+use Rattle.algebra.proofs.Totals.{only, only-most, count-suc, count-cong, count-bound}
 use Rattle.algebra.proofs.Fillings.{holds-more}
 use Rattle.model.specs.Game.{Game, Player, gameOf, setAt, playerOf, playerBit, owns, movesBefore}
 use Rattle.model.specs.Sequences.{sequenceCount, moveNumber}
 use Rattle.model.proofs.Bits.{field-fits}
 use Rattle.model.proofs.Tree.{bit-tells, bit-below, bit-back}
-use Rattle.records.specs.declared.SetEntry.{SetEntry}
+use Rattle.records.specs.declared.game.SetEntry.{SetEntry}
 use Rattle.records.specs.Records.{SetRead}
 use Rattle.sequences.specs.Sets.{firstSequence}
 
 module _ (g : Game) where
   -- the number that the next sequence of the player with bit b gets, after the sets below h
   unfoldable pub nextNumber : (h b : ℕ) → ℕ
-  nextNumber h b = 1 + countTo h (λ k. only (eqb (playerBit (g .setPlayer k)) b) (g .setMoves k))
+  nextNumber h b = 1 + totalTo h (λ k. only (eqb (playerBit (g .setPlayer k)) b) (g .setMoves k))
 
   -- it comes after those of the player's sets below h
   next-of : (h : ℕ) (p : Player) → nextNumber h (playerBit p) ≡ 1 + movesBefore g p h
@@ -49,7 +49,7 @@ module _ (g : Game) where
 
   -- no set has taken any
   pub next-none : Holds (nextNumber 0) 2 (replicate 2 1)
-  unfolding nextNumber countTo
+  unfolding nextNumber totalTo
   next-none = record { long = omega arith; at = λ b l. getD-replicate 2 b 1 0 l }
 
   -- where sets have few moves, the numbers are small

@@ -9,7 +9,7 @@ use Rattle.model.specs.Sequences.{firstNode, leading, leadingNumber}
 use Rattle.model.specs.Table.{ownNumber}
 use Rattle.model.specs.Rules.{GameRules}
 use Rattle.model.proofs.Tree.{first-in}
-use Rattle.records.specs.declared.SetEntry.{SetEntry}
+use Rattle.records.specs.declared.game.SetEntry.{SetEntry}
 use Rattle.records.specs.Records.{SetRead}
 use Rattle.sequences.specs.Recall.{leadingStored}
 

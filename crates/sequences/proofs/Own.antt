@@ -6,20 +6,20 @@ use native.Mathlib.Omega.{arith}
 use lib.Dec.{T}
 use Rattle.algebra.specs.Arrays.{Holds}
 use Rattle.algebra.proofs.Tests.{dec, cond-yes, cond-no}
-use Rattle.algebra.proofs.Counts.{only, only-most, count-bound}
+use Rattle.algebra.proofs.Totals.{only, only-most, count-bound}
 use Rattle.model.specs.Game.{Game, Player, one, gameOf, samePlayer, playerOf, isDecision, owns, movesBefore}
 use Rattle.model.specs.Sequences.{Move, Sequence, byLastMove, acts, ownSequence, moveNumber, sequenceNumber}
 use Rattle.model.specs.Table.{ownNumber}
 use Rattle.model.proofs.Sequences.{byLastMove-extended}
 use Rattle.model.proofs.Tree.{same-player, player-refl, owner, acts-parts, decision-kind, own-root, own-step}
-use Rattle.records.specs.declared.SetEntry.{SetEntry}
-use Rattle.records.specs.declared.NodeRecord.{NodeRecord}
+use Rattle.records.specs.declared.game.SetEntry.{SetEntry}
+use Rattle.records.specs.declared.game.NodeRecord.{NodeRecord}
 use Rattle.sequences.specs.declared.LastMove.{LastMove}
 use Rattle.sequences.specs.declared.LastMove.the-variants.{Empty, Made}
 use Rattle.records.specs.Records.{SetRead, NodeRead}
 use Rattle.records.specs.Rooted.{Rooted}
 use Rattle.sequences.specs.Sets.{firstSequence}
-use Rattle.sequences.specs.Recall.{lastOf, numberOf, Numbered}
+use Rattle.sequences.specs.Recall.{lastOf, numberOf, Numberable}
 
 -- bits that name the same player
 pub bits-same : (b p : ℕ) → b < 2 → p < 2 → playerOf b ≡ playerOf p → b ≡ p
@@ -119,7 +119,7 @@ module _ (g : Game) (R : Rooted g) (p : Player) where
   -- A list that holds the numbers of the sets' first sequences.
   module _ {starts : List ℕ} (S : Holds (firstSequence g) (g .sets) starts) where
     -- it has a place for the set of a move of the player's
-    start-in : (a : LastMove) → Owned g p a → Numbered a starts
+    start-in : (a : LastMove) → Owned g p a → Numberable a starts
     start-in Empty o = tt
     start-in (Made set place) o = (omega (arith, o .0, S .long), omega (arith, S .at set (o .0), start-small set (o .0)), o .1)
 
@@ -132,7 +132,7 @@ module _ (g : Game) (R : Rooted g) (p : Player) where
     -- The last own move to node n.
     module _ (n : ℕ) (l : n < g .nodes) {a : LastMove} (e : a ≡ lastOf (ownSequence g p n)) where
       -- its set has a place
-      pub last-numbered : Numbered a starts
+      pub last-numbered : Numberable a starts
       last-numbered = rw e (start-in (lastOf (ownSequence g p n)) (last-owned n l))
 
       -- and its number is that of the own sequence to n

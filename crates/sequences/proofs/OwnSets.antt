@@ -5,7 +5,7 @@ use mathlib.Core.List.{List}
 use lib.Dec.{T}
 use Rattle.model.specs.Game.{gameOf, playerOf, owns}
 use Rattle.model.proofs.Tree.{same-player, player-refl}
-use Rattle.records.specs.declared.SetEntry.{SetEntry}
+use Rattle.records.specs.declared.game.SetEntry.{SetEntry}
 use Rattle.records.specs.Records.{SetRead}
 use Rattle.sequences.proofs.Leading.{read-player}
 use Rattle.sequences.proofs.Own.{bits-same}

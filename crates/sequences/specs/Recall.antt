@@ -21,9 +21,9 @@ numberOf Empty starts = 0
 numberOf (Made set place) starts = getD starts set 0 + place
 
 -- the list has the set, and its number and the place are small enough for their sum not to wrap
-abbrev pub Numbered : LastMove → List ℕ → Type 0
-Numbered Empty starts = Unit {0}
-Numbered (Made set place) starts = (set < length starts) × (getD starts set 0 ≤ 1000000) × (place < 64)
+abbrev pub Numberable : LastMove → List ℕ → Type 0
+Numberable Empty starts = Unit {0}
+Numberable (Made set place) starts = (set < length starts) × (getD starts set 0 ≤ 1000000) × (place < 64)
 
 -- where p moves at node n, his own sequence number is that of the set's first node
 unfoldable pub recallTest : Game → Player → ℕ → Bool

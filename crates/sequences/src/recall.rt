@@ -12,7 +12,7 @@ ghost use Rattle.checks.specs.Checked.{checkedOf};
 ghost use Rattle.records.specs.Records.{Framed};
 ghost use Rattle.records.specs.Rooted.{Rooted};
 ghost use Rattle.sequences.specs.Sets.{firstSequence};
-ghost use Rattle.sequences.specs.Recall.{lastOf, Numbered, numberOf, recallTest};
+ghost use Rattle.sequences.specs.Recall.{lastOf, Numberable, numberOf, recallTest};
 use super::LastMove;
 use super::sets;
 use checks::Checked;
@@ -43,7 +43,7 @@ pub fn last_own_move(bytes: &[u8], records: usize, player: u64, n: usize) -> Las
 
 // The number of the sequence with this last move: 0, or the set's first number and the move.
 pub fn number(last: LastMove, starts: &[u64]) -> u64
-    requires { ⌜ Numbered last (now starts) ⌝ }
+    requires { ⌜ Numberable last (now starts) ⌝ }
     ensures { λ r. ⌜ r ≡ numberOf last (now (starts .entry)) ⌝ }
 {
     match last {

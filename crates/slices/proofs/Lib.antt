@@ -1,3 +1,3 @@
-pub mod Chaining
+pub mod ChainLaws
 pub mod Products
 pub mod SumLoops

@@ -8,6 +8,7 @@ use mir.Syntax.{w16, w64}
 use mir.Val.{SFits, toZ, ofZ}
 use mir.Facts.{toZ-ofZ}
 use Rattle.algebra.proofs.Ranges.{abs-scale, sfits-abs}
+use Rattle.model.specs.Limits.{countLimit}
 
 -- a number of 16 bits is at most 32,768 in size
 size-16 : (z : ℤ) → SFits w16 z → natAbs z ≤ 32768
@@ -19,10 +20,10 @@ pub weighed-fits : (w : ℕ) (z : ℤ) → w < 2 ^ 48 → SFits w16 z → SFits 
 weighed-fits w z l f = let b : w ≤ 281474976710655 = omega arith in sfits-abs w64 (pos w *ℤ z) (omega (arith, abs-scale w z, NatL.mul-le-mul b (size-16 z f)))
 
 -- a chance weight times one weight of 16 bits, and times two
-pub one-weight : {a b : ℕ} → a ≤ 4095 → b ≤ 65535 → a * b ≤ 268365825
+pub one-weight : {a b : ℕ} → a ≤ countLimit → b ≤ 65535 → a * b ≤ 268365825
 one-weight h k = NatL.mul-le-mul h k
 
-pub two-weights : {a b c : ℕ} → a ≤ 4095 → b ≤ 65535 → c ≤ 65535 → a * b * c ≤ 17587354341375
+pub two-weights : {a b c : ℕ} → a ≤ countLimit → b ≤ 65535 → c ≤ 65535 → a * b * c ≤ 17587354341375
 two-weights h k l = NatL.mul-le-mul (NatL.mul-le-mul h k) l
 
 -- a sum in range, of numbers as they are read

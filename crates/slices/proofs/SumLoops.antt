@@ -10,23 +10,22 @@ use lib.IntN.{ℤ, pos, _+ℤ_, +ℤ-idr}
 use mir.Syntax.{w64}
 use mir.Val.{SFits}
 use Rattle.algebra.specs.Bounded.{sumTo, sumWhere}
-use Rattle.algebra.specs.Arrays.{over}
+use Rattle.algebra.specs.Arrays.{item, itemZ, over}
 use Rattle.algebra.proofs.Tests.{cond-yes, cond-no}
 use Rattle.algebra.proofs.Sums.{onlyZ, sum-suc}
 use Rattle.algebra.proofs.Fillings.{length-over, over-at, over-cong, over-again, over-set}
-use Rattle.model.specs.Writing.{entry, entryZ}
 use Rattle.slices.specs.Sums.{opponentTerm, sumAt, pairTerm, pairSumTo, SumsReady}
 
 -- The sums by own sequence, place by place.
 module _ (own opponent chance : List ℕ) (payoffs : List ℤ) (y : List ℕ) where
   -- one place more, at its own sequence and at any other
-  sum-here : (k : ℕ) → sumAt opponent chance payoffs y own (k + 1) (entry own k) ≡ sumAt opponent chance payoffs y own k (entry own k) +ℤ opponentTerm opponent chance payoffs y k
+  sum-here : (k : ℕ) → sumAt opponent chance payoffs y own (k + 1) (item own k) ≡ sumAt opponent chance payoffs y own k (item own k) +ℤ opponentTerm opponent chance payoffs y k
   unfolding sumAt sumWhere
-  sum-here k = let s = entry own k in rw (add-one, sum-suc) (ap (λ (z : ℤ). sumTo k (λ i. onlyZ (eqb (entry own i) s) (opponentTerm opponent chance payoffs y i)) +ℤ z) (cond-yes (eqb s s) (opponentTerm opponent chance payoffs y k) (pos 0) (eqb-refl s)))
+  sum-here k = let s = item own k in rw (add-one, sum-suc) (ap (λ (z : ℤ). sumTo k (λ i. onlyZ (eqb (item own i) s) (opponentTerm opponent chance payoffs y i)) +ℤ z) (cond-yes (eqb s s) (opponentTerm opponent chance payoffs y k) (pos 0) (eqb-refl s)))
 
-  sum-elsewhere : (k s : ℕ) → ¬ (s ≡ entry own k) → sumAt opponent chance payoffs y own k s ≡ sumAt opponent chance payoffs y own (k + 1) s
+  sum-elsewhere : (k s : ℕ) → ¬ (s ≡ item own k) → sumAt opponent chance payoffs y own k s ≡ sumAt opponent chance payoffs y own (k + 1) s
   unfolding sumAt sumWhere
-  sum-elsewhere k s d = rw (add-one, sum-suc, cond-no (eqb (entry own k) s) (opponentTerm opponent chance payoffs y k) (pos 0) (λ t. d (sym (eqb→eq (entry own k) s t)))) (sym (+ℤ-idr _))
+  sum-elsewhere k s d = rw (add-one, sum-suc, cond-no (eqb (item own k) s) (opponentTerm opponent chance payoffs y k) (pos 0) (λ t. d (sym (eqb→eq (item own k) s t)))) (sym (+ℤ-idr _))
 
   -- no place
   sum-none : (s : ℕ) → sumAt opponent chance payoffs y own 0 s ≡ pos 0
@@ -51,18 +50,18 @@ module _ (own opponent chance : List ℕ) (payoffs : List ℤ) (y : List ℕ) wh
     summing-none = (omega arith, cleared ∙ over-cong (λ s. pos 0) (sumAt opponent chance payoffs y own 0) sequences held (λ s v. sym (sum-none s)) ∙ sym (forgotten (sumAt opponent chance payoffs y own 0)))
 
     -- the entry at the own sequence of place k
-    here : (k : ℕ) → k < count → entryZ (over (sumAt opponent chance payoffs y own k) sequences before) (entry own k) +ℤ opponentTerm opponent chance payoffs y k ≡ sumAt opponent chance payoffs y own (k + 1) (entry own k)
-    here k l = ap (λ (z : ℤ). z +ℤ opponentTerm opponent chance payoffs y k) (over-at (pos 0) (sumAt opponent chance payoffs y own k) sequences before (entry own k) (S .own-below k l)) ∙ sym (sum-here k)
+    here : (k : ℕ) → k < count → itemZ (over (sumAt opponent chance payoffs y own k) sequences before) (item own k) +ℤ opponentTerm opponent chance payoffs y k ≡ sumAt opponent chance payoffs y own (k + 1) (item own k)
+    here k l = ap (λ (z : ℤ). z +ℤ opponentTerm opponent chance payoffs y k) (over-at (pos 0) (sumAt opponent chance payoffs y own k) sequences before (item own k) (S .own-below k l)) ∙ sym (sum-here k)
 
     -- a turn: the sum is in range, and place k is added
-    pub summing-fits : (k : ℕ) (out : List ℤ) → Summing k out → k < count → SFits w64 (entryZ out (entry own k) +ℤ opponentTerm opponent chance payoffs y k)
-    summing-fits k out h l = rw (h .1, here k l) (S .fit (k + 1) (entry own k) (omega arith))
+    pub summing-fits : (k : ℕ) (out : List ℤ) → Summing k out → k < count → SFits w64 (itemZ out (item own k) +ℤ opponentTerm opponent chance payoffs y k)
+    summing-fits k out h l = rw (h .1, here k l) (S .fit (k + 1) (item own k) (omega arith))
 
-    pub summing-more : (k : ℕ) (out : List ℤ) → Summing k out → k < count → (sum : ℤ) → sum ≡ entryZ out (entry own k) +ℤ opponentTerm opponent chance payoffs y k → Summing (k + 1) (set out (entry own k) sum)
+    pub summing-more : (k : ℕ) (out : List ℤ) → Summing k out → k < count → (sum : ℤ) → sum ≡ itemZ out (item own k) +ℤ opponentTerm opponent chance payoffs y k → Summing (k + 1) (set out (item own k) sum)
     summing-more k out h l sum e = (
       omega arith,
       rw (e, h .1)
-          (over-set (pos 0) (sumAt opponent chance payoffs y own k) (sumAt opponent chance payoffs y own (k + 1)) sequences before (entry own k) _ (omega (arith, before-long)) (S .own-below k l) (here k l) (λ s d. sum-elsewhere k s d)),
+          (over-set (pos 0) (sumAt opponent chance payoffs y own k) (sumAt opponent chance payoffs y own (k + 1)) sequences before (item own k) _ (omega (arith, before-long)) (S .own-below k l) (here k l) (λ s d. sum-elsewhere k s d)),
     )
 
     -- the array keeps its length

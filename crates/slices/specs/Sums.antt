@@ -6,25 +6,25 @@ use lib.Dec.{eqb}
 use lib.IntN.{ℤ, pos, _*ℤ_}
 use mir.Syntax.{w64}
 use mir.Val.{SFits}
+use Rattle.algebra.specs.Arrays.{item, itemZ}
 use Rattle.algebra.specs.Bounded.{sumTo, sumWhere}
-use Rattle.model.specs.Writing.{entry, entryZ}
-use Rattle.model.specs.Budget.{weightLimit}
+use Rattle.model.specs.Limits.{weightLimit, countLimit}
 
 -- Of one player by place: the opponent's sequence numbers, chance weights and payoffs; the opponent's weights y by number.
 module _ (opponent chance : List ℕ) (payoffs : List ℤ) (y : List ℕ) where
   -- chance weight × the opponent's weight × payoff at place k
   unfoldable pub opponentTerm : (k : ℕ) → ℤ
-  opponentTerm k = pos (entry chance k * entry y (entry opponent k)) *ℤ entryZ payoffs k
+  opponentTerm k = pos (item chance k * item y (item opponent k)) *ℤ itemZ payoffs k
 
   -- their sum over those of the first n places whose own sequence has number s
   unfoldable pub sumAt : (own : List ℕ) → (n s : ℕ) → ℤ
-  sumAt own n s = sumWhere n (λ k. eqb (entry own k) s) opponentTerm
+  sumAt own n s = sumWhere n (λ k. eqb (item own k) s) opponentTerm
 
 -- Both players' sequence numbers, chance weights and one player's payoffs by place; both players' weights by number.
 module _ (first second chance : List ℕ) (payoffs : List ℤ) (x y : List ℕ) where
   -- chance weight × both weights × payoff at place k
   unfoldable pub pairTerm : (k : ℕ) → ℤ
-  pairTerm k = pos (entry chance k * entry x (entry first k) * entry y (entry second k)) *ℤ entryZ payoffs k
+  pairTerm k = pos (item chance k * item x (item first k) * item y (item second k)) *ℤ itemZ payoffs k
 
   -- their sum over the first n places
   unfoldable pub pairSumTo : (n : ℕ) → ℤ
@@ -36,10 +36,10 @@ pub record SumsReady (count sequences : ℕ) (own opponent chance : List ℕ) (p
   pub opponent-long : count ≤ length opponent
   pub chance-long : count ≤ length chance
   pub payoffs-long : count ≤ length payoffs
-  pub own-below : (k : ℕ) → k < count → entry own k < sequences
-  pub opponent-below : (k : ℕ) → k < count → entry opponent k < length y
-  pub chance-small : (k : ℕ) → k < count → entry chance k ≤ 4095
-  pub weight-small : (k : ℕ) → k < count → entry y (entry opponent k) ≤ weightLimit
+  pub own-below : (k : ℕ) → k < count → item own k < sequences
+  pub opponent-below : (k : ℕ) → k < count → item opponent k < length y
+  pub chance-small : (k : ℕ) → k < count → item chance k ≤ countLimit
+  pub weight-small : (k : ℕ) → k < count → item y (item opponent k) ≤ weightLimit
   pub fit : (n s : ℕ) → n ≤ count → SFits w64 (sumAt opponent chance payoffs y own n s)
 
 -- What adding up a player's value needs of them.
@@ -48,9 +48,9 @@ pub record ValueReady (count : ℕ) (first second chance : List ℕ) (payoffs : 
   pub second-long : count ≤ length second
   pub chance-long : count ≤ length chance
   pub payoffs-long : count ≤ length payoffs
-  pub first-below : (k : ℕ) → k < count → entry first k < length x
-  pub second-below : (k : ℕ) → k < count → entry second k < length y
-  pub chance-small : (k : ℕ) → k < count → entry chance k ≤ 4095
-  pub first-small : (k : ℕ) → k < count → entry x (entry first k) ≤ weightLimit
-  pub second-small : (k : ℕ) → k < count → entry y (entry second k) ≤ weightLimit
+  pub first-below : (k : ℕ) → k < count → item first k < length x
+  pub second-below : (k : ℕ) → k < count → item second k < length y
+  pub chance-small : (k : ℕ) → k < count → item chance k ≤ countLimit
+  pub first-small : (k : ℕ) → k < count → item x (item first k) ≤ weightLimit
+  pub second-small : (k : ℕ) → k < count → item y (item second k) ≤ weightLimit
   pub fit : (n : ℕ) → n ≤ count → SFits w64 (pairSumTo first second chance payoffs x y n)

@@ -5,13 +5,12 @@ ghost use lib.ListN.{length};
 ghost use lib.IntN.{pos, _+ℤ_, _*ℤ_};
 ghost use mir.Syntax.{w64};
 ghost use mir.Val.{SFits};
-ghost use Rattle.algebra.specs.Arrays.{over};
-ghost use Rattle.model.specs.Writing.{entry};
-ghost use Rattle.model.specs.Budget.{weightLimit};
+ghost use Rattle.algebra.specs.Arrays.{item, over};
+ghost use Rattle.model.specs.Limits.{weightLimit, countLimit};
 ghost use Rattle.slices.specs.Sums.{opponentTerm, sumAt, pairTerm, pairSumTo, SumsReady, ValueReady};
 
 // A payoff times its weight.
-fn weighed(weight: u64, payoff: i16) -> i64
+pub fn weighed(weight: u64, payoff: i16) -> i64
     requires { ⌜ weight < 2 ^ 48 ⌝ }
     ensures { λ r. ⌜ r ≡ pos weight *ℤ payoff ⌝ }
 {
@@ -20,7 +19,7 @@ fn weighed(weight: u64, payoff: i16) -> i64
 }
 
 // A sum and one term more.
-fn added(sum: i64, term: i64) -> i64
+pub fn added(sum: i64, term: i64) -> i64
     requires { ⌜ SFits w64 (sum +ℤ term) ⌝ }
     ensures { λ r. ⌜ r ≡ sum +ℤ term ⌝ }
 {
@@ -29,7 +28,7 @@ fn added(sum: i64, term: i64) -> i64
 
 // Chance weight × the opponent's weight × payoff of the leaf at place `k`.
 fn opponent_term(k: usize, opponent: &[usize], chance: &[u64], payoffs: &[i16], y: &[u64]) -> i64
-    requires { ⌜ (k < length (now opponent)) × (k < length (now chance)) × (k < length (now payoffs)) × (entry (now opponent) k < length (now y)) × (entry (now chance) k ≤ 4095) × (entry (now y) (entry (now opponent) k) ≤ weightLimit) ⌝ }
+    requires { ⌜ (k < length (now opponent)) × (k < length (now chance)) × (k < length (now payoffs)) × (item (now opponent) k < length (now y)) × (item (now chance) k ≤ countLimit) × (item (now y) (item (now opponent) k) ≤ weightLimit) ⌝ }
     ensures { λ r. ⌜ r ≡ opponentTerm (now (opponent .entry)) (now (chance .entry)) (now (payoffs .entry)) (now (y .entry)) k ⌝ }
 {
     let weight = chance[k] * y[opponent[k]];
@@ -73,7 +72,7 @@ pub fn sums(
 
 // Chance weight × both players' weights.
 fn product(chance: u64, x: u64, y: u64) -> u64
-    requires { ⌜ (chance ≤ 4095) × (x ≤ weightLimit) × (y ≤ weightLimit) ⌝ }
+    requires { ⌜ (chance ≤ countLimit) × (x ≤ weightLimit) × (y ≤ weightLimit) ⌝ }
     ensures { λ r. ⌜ (r ≡ chance * x * y) × (r < 2 ^ 48) ⌝ }
 {
     chance * x * y
@@ -89,7 +88,7 @@ fn pair_term(
     x: &[u64],
     y: &[u64],
 ) -> i64
-    requires { ⌜ (k < length (now first)) × (k < length (now second)) × (k < length (now chance)) × (k < length (now payoffs)) × (entry (now first) k < length (now x)) × (entry (now second) k < length (now y)) × (entry (now chance) k ≤ 4095) × (entry (now x) (entry (now first) k) ≤ weightLimit) × (entry (now y) (entry (now second) k) ≤ weightLimit) ⌝ }
+    requires { ⌜ (k < length (now first)) × (k < length (now second)) × (k < length (now chance)) × (k < length (now payoffs)) × (item (now first) k < length (now x)) × (item (now second) k < length (now y)) × (item (now chance) k ≤ countLimit) × (item (now x) (item (now first) k) ≤ weightLimit) × (item (now y) (item (now second) k) ≤ weightLimit) ⌝ }
     ensures { λ r. ⌜ r ≡ pairTerm (now (first .entry)) (now (second .entry)) (now (chance .entry)) (now (payoffs .entry)) (now (x .entry)) (now (y .entry)) k ⌝ }
 {
     let drawn = chance[k];

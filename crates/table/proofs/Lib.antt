@@ -1,1 +1,3 @@
-pub mod Tabled
+pub mod RowCount
+pub mod SpreadOver
+pub mod TakenApart

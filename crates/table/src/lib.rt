@@ -1,66 +1,46 @@
-// The payoff table of a game into lent buffers, one a column.
+// The payoff table of a game into lent buffers, one a column. It is made as rows, which are then taken apart.
+// Only the call itself, which lends the rows, has a proof that walks its code by hand.
 ghost use mathlib.Core.Path.{_≡_};
 ghost use Prim.Native.Nat.{_≤_};
 ghost use mathlib.Core.List.{[], _∷_};
-ghost use lib.ListN.{length};
-ghost use Rattle.algebra.specs.Arrays.{over};
-ghost use Rattle.model.specs.Writing.{entry, entryZ};
+ghost use Rattle.model.specs.Limits.{countLimit};
 ghost use Rattle.model.specs.Call.{longEnough, outcome};
 ghost use Rattle.model.specs.calls.PayoffTable.{payoffColumns};
 ghost use Rattle.checks.specs.Checked.{checkedOf};
-ghost use Rattle.table.specs.Answers.{tableAnswered};
-ghost use Rattle.table.specs.Tables.{columns, copied, Copyable};
+ghost use Rattle.rows.specs.Answers.{tableAnswered};
+ghost use Rattle.rows.specs.Rows.{rowsGiven};
+ghost use Rattle.table.specs.Tables.{columns, Copyable, takenApart, spreadOver};
 use checks::Checked;
+use records::NodeRecord;
+use rows::Row;
+use rows::TableAnswer;
 
-// How many rows the payoff table has, which stand in the lent buffers; a refusal is 1 to 13, or 18.
-pub enum TableAnswer {
-    Given { rows: u64 },
-    Refused(u64),
-}
+// As many rows as the longest table has.
+const ROWS: usize = NodeRecord::NODES;
 
-// Copies the first `n` numbers.
-fn copy(from: &[u64], n: usize, to: &mut [u64])
-    requires { ⌜ (n ≤ length (now from)) × (n ≤ length (now to)) ⌝ }
-    ensures { λ _. ⌜ now (to .exit) ≡ over (entry (now (from .entry))) n (now (to .entry)) ⌝ }
-{
-    let mut i = 0;
-    while i < n {
-        to[i] = from[i];
-        i += 1;
-    }
-}
-
-// Copies the first `n` sums.
-fn copy_sums(from: &[i64], n: usize, to: &mut [i64])
-    requires { ⌜ (n ≤ length (now from)) × (n ≤ length (now to)) ⌝ }
-    ensures { λ _. ⌜ now (to .exit) ≡ over (entryZ (now (from .entry))) n (now (to .entry)) ⌝ }
-{
-    let mut i = 0;
-    while i < n {
-        to[i] = from[i];
-        i += 1;
-    }
-}
-
-// Copies the first `n` rows of four columns.
-fn copy_rows(
+// Takes the first `n` rows apart, each number into its column.
+fn take_apart(
+    rows: [Row; ROWS],
     n: usize,
-    from1: &[u64],
-    from2: &[u64],
-    from_sum1: &[i64],
-    from_sum2: &[i64],
     sequence1: &mut [u64],
     sequence2: &mut [u64],
     sum1: &mut [i64],
     sum2: &mut [i64],
 )
-    requires { ⌜ Copyable n (columns (now from1) (now from2) (now «from_sum1») (now «from_sum2»)) × Copyable n (columns (now sequence1) (now sequence2) (now sum1) (now sum2)) ⌝ }
-    ensures { λ _. ⌜ columns (now (sequence1 .exit)) (now (sequence2 .exit)) (now (sum1 .exit)) (now (sum2 .exit)) ≡ copied n (columns (now (from1 .entry)) (now (from2 .entry)) (now («from_sum1» .entry)) (now («from_sum2» .entry))) (columns (now (sequence1 .entry)) (now (sequence2 .entry)) (now (sum1 .entry)) (now (sum2 .entry))) ⌝ }
+    requires { ⌜ (n ≤ countLimit) × Copyable n (columns (now sequence1) (now sequence2) (now sum1) (now sum2)) ⌝ }
+    ensures { λ _. ⌜ columns (now (sequence1 .exit)) (now (sequence2 .exit)) (now (sum1 .exit)) (now (sum2 .exit)) ≡ takenApart n rows (columns (now (sequence1 .entry)) (now (sequence2 .entry)) (now (sum1 .entry)) (now (sum2 .entry))) ⌝ }
 {
-    copy(from1, n, sequence1);
-    copy(from2, n, sequence2);
-    copy_sums(from_sum1, n, sum1);
-    copy_sums(from_sum2, n, sum2);
+    let mut k = 0;
+    while k < n {
+        let row = rows[k];
+        let worth1 = row.sum1;
+        let worth2 = row.sum2;
+        sequence1[k] = row.sequence1;
+        sequence2[k] = row.sequence2;
+        sum1[k] = worth1;
+        sum2[k] = worth2;
+        k += 1;
+    }
 }
 
 // Check 18: whether the buffers have room for `n` rows, by their lengths alone.
@@ -74,6 +54,30 @@ fn has_room(n: usize, sequence1: usize, sequence2: usize, sum1: usize, sum2: usi
     checks::check(18, ok)
 }
 
+// The rows that an answer gives, over the columns; a refusal as it is.
+fn spread(
+    answer: TableAnswer,
+    rows: [Row; ROWS],
+    sequence1: &mut [u64],
+    sequence2: &mut [u64],
+    sum1: &mut [i64],
+    sum2: &mut [i64],
+) -> TableAnswer
+    requires { ⌜ rowsGiven answer ≤ countLimit ⌝ }
+    ensures { λ r. ⌜ outcome (tableAnswered r) (now (sequence1 .exit), (now (sequence2 .exit), (now (sum1 .exit), (now (sum2 .exit), tt)))) ≡ spreadOver answer rows (columns (now (sequence1 .entry)) (now (sequence2 .entry)) (now (sum1 .entry)) (now (sum2 .entry))) ⌝ }
+{
+    let TableAnswer::Given { rows: count } = answer else {
+        return answer;
+    };
+    let n = count as usize;
+    let c18 = has_room(n, sequence1.len(), sequence2.len(), sum1.len(), sum2.len());
+    let Checked::Fine = c18 else {
+        return TableAnswer::Refused(checks::number(c18));
+    };
+    take_apart(rows, n, sequence1, sequence2, sum1, sum2);
+    answer
+}
+
 // The payoff table, each column into its buffer: both players' sequence numbers, and for each player the sum of chance weight × payoff.
 pub fn payoff_table(
     game: &[u8],
@@ -84,25 +88,13 @@ pub fn payoff_table(
 ) -> TableAnswer
     ensures { λ r. ⌜ outcome (tableAnswered r) (now (sequence1 .exit), (now (sequence2 .exit), (now (sum1 .exit), (now (sum2 .exit), tt)))) ≡ payoffColumns (now (game .entry)) (now (sequence1 .entry), (now (sequence2 .entry), (now (sum1 .entry), (now (sum2 .entry), tt)))) ⌝ }
 {
-    let checked = game::check(game);
-    let game::GameAnswer::Accepted(header) = checked else {
-        return TableAnswer::Refused(game::refusal(checked));
+    let none = Row {
+        sequence1: 0,
+        sequence2: 0,
+        sum1: 0,
+        sum2: 0,
     };
-    let mut s1 = [0u64; 4095];
-    let mut s2 = [0u64; 4095];
-    let mut t1 = [0i64; 4095];
-    let mut t2 = [0i64; 4095];
-    let rows = payoff::table::tabulate(game, header, &mut s1, &mut s2, &mut t1, &mut t2);
-    let c18 = has_room(
-        rows,
-        sequence1.len(),
-        sequence2.len(),
-        sum1.len(),
-        sum2.len(),
-    );
-    let Checked::Fine = c18 else {
-        return TableAnswer::Refused(checks::number(c18));
-    };
-    copy_rows(rows, &s1, &s2, &t1, &t2, sequence1, sequence2, sum1, sum2);
-    TableAnswer::Given { rows: rows as u64 }
+    let mut rows = [none; ROWS];
+    let answer = rows::payoff_rows(game, &mut rows);
+    spread(answer, rows, sequence1, sequence2, sum1, sum2)
 }

@@ -6,7 +6,7 @@ use lib.ListN.{length}
 use Rattle.algebra.specs.Arrays.{placed}
 
 -- the buffer is long enough for the text from `at` on
-pub record Room (at : ℕ) (text out : List ℕ) : Type 0 where
+pub record TextFits (at : ℕ) (text out : List ℕ) : Type 0 where
   pub fits : at + length text ≤ length out
 
 -- the text stands in the buffer from `at` on, the rest is as it was, and `next` is the place after it

@@ -6,7 +6,7 @@ ghost use lib.Dec.{ltb};
 ghost use lib.IntN.{natAbs};
 ghost use lib.Signed.{nonNeg};
 ghost use Rattle.model.specs.Report.{lastThree, amount};
-ghost use Rattle.text.specs.Text.{Room, Put};
+ghost use Rattle.text.specs.Text.{TextFits, Put};
 ghost use Rattle.text.specs.Lines.{BaseFits, fraction};
 use super::decimal::put_digit;
 use super::decimal::put_signed;
@@ -32,7 +32,7 @@ fn shows_minus(count: i64, whole: u64, rest: u64) -> bool
 
 // Puts three digits.
 fn put_three(rest: u64, out: &mut [u8], at: usize) -> usize
-    requires { ⌜ Room at (lastThree rest) (now out) ⌝ }
+    requires { ⌜ TextFits at (lastThree rest) (now out) ⌝ }
     ensures { λ r. ⌜ Put at (lastThree rest) (now (out .entry)) (now (out .exit)) r ⌝ }
 {
     let second = put_digit(rest / 100 % 10, out, at);
@@ -42,7 +42,7 @@ fn put_three(rest: u64, out: &mut [u8], at: usize) -> usize
 
 // Puts the amount `count` over `base`.
 pub fn put_amount(count: i64, base: u64, out: &mut [u8], at: usize) -> usize
-    requires { ⌜ BaseFits base × Room at (amount (fraction count base)) (now out) ⌝ }
+    requires { ⌜ BaseFits base × TextFits at (amount (fraction count base)) (now out) ⌝ }
     ensures { λ r. ⌜ Put at (amount (fraction count base)) (now (out .entry)) (now (out .exit)) r ⌝ }
 {
     let size = magnitude(count);

@@ -2,12 +2,12 @@
 ghost use mathlib.Core.List.{[], _∷_};
 ghost use Prim.Native.Nat.{_+_, _<_};
 ghost use Rattle.model.specs.Report.{decimal, signedDecimal};
-ghost use Rattle.text.specs.Text.{Room, Put};
+ghost use Rattle.text.specs.Text.{TextFits, Put};
 use super::put_text;
 
 // Puts one digit.
 pub fn put_digit(digit: u64, out: &mut [u8], at: usize) -> usize
-    requires { ⌜ (digit < 10) × Room at ((48 + digit) ∷ []) (now out) ⌝ }
+    requires { ⌜ (digit < 10) × TextFits at ((48 + digit) ∷ []) (now out) ⌝ }
     ensures { λ r. ⌜ Put at ((48 + digit) ∷ []) (now (out .entry)) (now (out .exit)) r ⌝ }
 {
     out[at] = (48 + digit) as u8;
@@ -16,7 +16,7 @@ pub fn put_digit(digit: u64, out: &mut [u8], at: usize) -> usize
 
 // Puts a number: what is left without its last digit, and then that digit.
 pub fn put_decimal(n: u64, out: &mut [u8], at: usize) -> usize
-    requires { ⌜ Room at (decimal n) (now out) ⌝ }
+    requires { ⌜ TextFits at (decimal n) (now out) ⌝ }
     ensures { λ r. ⌜ Put at (decimal n) (now (out .entry)) (now (out .exit)) r ⌝ }
 {
     if n < 10 {
@@ -28,7 +28,7 @@ pub fn put_decimal(n: u64, out: &mut [u8], at: usize) -> usize
 
 // Puts a number by its sign and size.
 pub fn put_signed(negative: bool, size: u64, out: &mut [u8], at: usize) -> usize
-    requires { ⌜ Room at (signedDecimal negative size) (now out) ⌝ }
+    requires { ⌜ TextFits at (signedDecimal negative size) (now out) ⌝ }
     ensures { λ r. ⌜ Put at (signedDecimal negative size) (now (out .entry)) (now (out .exit)) r ⌝ }
 {
     if negative {

@@ -13,6 +13,7 @@ ghost use Rattle.gather.specs.Sets.{SetsGathered};
 ghost use Rattle.form.specs.Prepared.{Prepared};
 use plan::PairAnswer;
 use records::Header;
+use records::NodeRecord;
 use trials::ROOM;
 use trials::load;
 use trials::say;
@@ -45,7 +46,7 @@ fn repeat(
 ) -> usize
     requires { ⌜ (header ≡ headerOf (now game)) × GameRules (gameOf (now game)) × (sequences ≡ sequenceCount (gameOf (now game)) one) × PlayerLeaves (gameOf (now game)) one leaves (now own) (now opponent) (now chance) (now payoffs) × Weights (gameOf (now game)) two (now y) × Prepared (gameOf (now game)) one (now head) (now next) (now lead) (now start) (now count) (now node) ⌝ }
 {
-    let mut moves = [0usize; 4095];
+    let mut moves = [0usize; NodeRecord::NODES];
     let mut k = 0;
     while k < times {
         form::best::prepared_best(
@@ -92,9 +93,9 @@ fn with_chains(
 ) -> usize
     requires { ⌜ (header ≡ headerOf (now game)) × GameRules (gameOf (now game)) × (sequences ≡ sequenceCount (gameOf (now game)) one) × PlayerLeaves (gameOf (now game)) one leaves (now own) (now opponent) (now chance) (now payoffs) × Weights (gameOf (now game)) two (now y) × SetsGathered (gameOf (now game)) (now players) (now count) (now start) (now leads) (now node) ⌝ }
 {
-    let mut lead = [0usize; 4095];
-    let mut head = [0usize; 4095];
-    let mut next = [0usize; 4095];
+    let mut lead = [0usize; NodeRecord::NODES];
+    let mut head = [0usize; NodeRecord::NODES];
+    let mut next = [0usize; NodeRecord::NODES];
     form::best::prepare(
         game,
         header,
@@ -144,11 +145,11 @@ fn with_leaves(
 ) -> usize
     requires { ⌜ (header ≡ headerOf (now game)) × GameRules (gameOf (now game)) × (sequences ≡ sequenceCount (gameOf (now game)) one) × OwnNumbers (gameOf (now game)) (now starts) (now own1) (now own2) × Weights (gameOf (now game)) two (now y) × SetsGathered (gameOf (now game)) (now players) (now count) (now start) (now leads) (now node) ⌝ }
 {
-    let mut first = [0usize; 4095];
-    let mut second = [0usize; 4095];
-    let mut chance = [0u64; 4095];
-    let mut payoffs1 = [0i16; 4095];
-    let mut payoffs2 = [0i16; 4095];
+    let mut first = [0usize; NodeRecord::NODES];
+    let mut second = [0usize; NodeRecord::NODES];
+    let mut chance = [0u64; NodeRecord::NODES];
+    let mut payoffs1 = [0i16; NodeRecord::NODES];
+    let mut payoffs2 = [0i16; NodeRecord::NODES];
     let leaves = gather::leaves::gather(
         game,
         header,
@@ -192,11 +193,11 @@ fn with_sets(
 ) -> usize
     requires { ⌜ (header ≡ headerOf (now game)) × GameRules (gameOf (now game)) × (sequences ≡ sequenceCount (gameOf (now game)) one) × OwnNumbers (gameOf (now game)) (now starts) (now own1) (now own2) × Weights (gameOf (now game)) two (now y) ⌝ }
 {
-    let mut players = [0usize; 4095];
-    let mut count = [0usize; 4095];
-    let mut start = [0usize; 4095];
-    let mut leads = [0usize; 4095];
-    let mut node = [0usize; 4095];
+    let mut players = [0usize; NodeRecord::NODES];
+    let mut count = [0usize; NodeRecord::NODES];
+    let mut start = [0usize; NodeRecord::NODES];
+    let mut leads = [0usize; NodeRecord::NODES];
+    let mut node = [0usize; NodeRecord::NODES];
     gather::sets::gather(
         game,
         header,
@@ -230,9 +231,9 @@ fn with_sets(
 fn with_numbers(game: &[u8], header: Header, y: &[u64], times: usize) -> usize
     requires { ⌜ (header ≡ headerOf (now game)) × GameRules (gameOf (now game)) × Weights (gameOf (now game)) two (now y) ⌝ }
 {
-    let mut starts = [0u64; 4095];
-    let mut own1 = [0u64; 4095];
-    let mut own2 = [0u64; 4095];
+    let mut starts = [0u64; NodeRecord::NODES];
+    let mut own1 = [0u64; NodeRecord::NODES];
+    let mut own2 = [0u64; NodeRecord::NODES];
     let counts = gather::numbers::own_numbers(game, header, &mut starts, &mut own1, &mut own2);
     let sequences = bits::index(counts.first);
     with_sets(game, header, sequences, &starts, &own1, &own2, y, times)
@@ -240,8 +241,8 @@ fn with_numbers(game: &[u8], header: Header, y: &[u64], times: usize) -> usize
 
 // On both files.
 fn run(game: &[u8], plan: &[u8], times: usize) {
-    let mut x = [0u64; 4095];
-    let mut y = [0u64; 4095];
+    let mut x = [0u64; NodeRecord::NODES];
+    let mut y = [0u64; NodeRecord::NODES];
     let answer = plan::pair::read(game, plan, &mut x, &mut y);
     let PairAnswer::Fits(pair) = answer else {
         say(b"refused\n");

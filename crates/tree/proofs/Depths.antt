@@ -11,6 +11,7 @@ use borrow.Author.Count.{below-none, below-more}
 use borrow.Author.Tests.{le-leb, lt-leb}
 use Rattle.algebra.proofs.Tests.{true→T}
 use Rattle.algebra.proofs.Searches.{allTo-at}
+use Rattle.model.specs.Limits.{countLimit}
 use Rattle.model.specs.Game.{Game}
 use Rattle.model.specs.GameChecks.{pathLimit, depthIn, depth, pathsInLimit}
 use Rattle.checks.specs.declared.Checked.the-variants.{Fine, Broken}
@@ -26,7 +27,7 @@ inLimit g n = leb (depth g n) 255
 pub record Measured (g : Game) (n : ℕ) (depths : List ℕ) : Type 0 where
   pub some : 0 < n
   pub passed : Passed (inLimit g) (g .nodes) n
-  pub size : length depths ≡ 4095
+  pub size : length depths ≡ countLimit
   pub at : (i : ℕ) → i < n → getD depths i 0 ≡ depth g i
 
 -- then node n is one move further than its parent `up`
@@ -63,7 +64,7 @@ module _ (g : Game) where
       (f, omega (arith, depth-enough R n up up (omega arith) (omega arith) (omega arith)))
 
   -- an array that begins with 0 has the root's depth
-  pub measured-root : (depths : List ℕ) → 0 < g .nodes → length depths ≡ 4095 → getD depths 0 0 ≡ 0 → Measured g 1 depths
+  pub measured-root : (depths : List ℕ) → 0 < g .nodes → length depths ≡ countLimit → getD depths 0 0 ≡ 0 → Measured g 1 depths
   unfolding depth
   measured-root d b s e =
       let z = root-depth 0 in

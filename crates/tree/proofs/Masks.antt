@@ -10,9 +10,9 @@ use lib.Dec.{T, ltb, ltb→lt, lt→ltb, eqb, eqb→eq}
 use lib.Pow.{pow-pos, pow-add}
 use mir.Facts.{or-yes}
 use borrow.Author.Tests.{le-ltb}
-use Rattle.algebra.specs.Bounded.{countTo}
+use Rattle.algebra.specs.Bounded.{totalTo}
 use Rattle.algebra.proofs.Tests.{bool-same, false→not, or-left, or-right, eqb-make}
-use Rattle.algebra.proofs.Counts.{only, only-most, count-cong, count-zero, count-plus, count-pick}
+use Rattle.algebra.proofs.Totals.{only, only-most, count-cong, count-zero, count-plus, count-pick}
 use Rattle.tree.specs.Children.{mask}
 
 -- equal tests
@@ -27,7 +27,7 @@ mask-none w f e = count-zero w (λ m. only (f m) (2 ^ m)) (λ m l. rw (e m))
 
 -- a mask fits its width
 pub mask-fits : (w : ℕ) (f : ℕ → Bool) → mask w f < 2 ^ w
-unfolding mask countTo
+unfolding mask totalTo
 mask-fits zero f = omega arith
 mask-fits (suc w) f = omega (arith, mask-fits w f, only-most (f w) (2 ^ w))
 
@@ -35,7 +35,7 @@ mask-fits (suc w) f = omega (arith, mask-fits w f, only-most (f w) (2 ^ w))
 pub mask-more : (w : ℕ) (f : ℕ → Bool) (m : ℕ) → m < w → f m ≡ false → mask w f + 2 ^ m ≡ mask w (λ k. f k || eqb m k)
 unfolding mask
 mask-more w f m l e =
-    ap (λ (x : ℕ). countTo w (λ k. only (f k) (2 ^ k)) + x) (sym (count-pick w m (λ k. 2 ^ k) l))
+    ap (λ (x : ℕ). totalTo w (λ k. only (f k) (2 ^ k)) + x) (sym (count-pick w m (λ k. 2 ^ k) l))
     ∙ count-plus w (λ k. only (f k) (2 ^ k)) (λ k. only (eqb m k) (2 ^ k))
     ∙ count-cong w _ (λ k. only (f k || eqb m k) (2 ^ k)) (λ k v. apart (f k) (eqb m k) (2 ^ k) (λ t. subst (λ (j : ℕ). ¬ T (f j)) (eqb→eq m k t) (false→not (f m) e)))
   where
@@ -66,7 +66,7 @@ mask-ones w (suc k) l =
 
 -- digit m
 pub mask-digit : (w : ℕ) (f : ℕ → Bool) (m : ℕ) → m < w → mask w f / 2 ^ m % 2 ≡ only (f m) 1
-unfolding mask countTo
+unfolding mask totalTo
 mask-digit zero f m l = absurd (omega arith)
 mask-digit (suc w) f m l =
     elim (ℕ-discrete m w) [

@@ -11,9 +11,10 @@ use mir.Facts.{and-yes}
 use borrow.Author.Tests.{lt-ltb, eq-eqb, ne-eqb}
 use Rattle.algebra.specs.Bounded.{allTo, anyTo}
 use Rattle.algebra.proofs.Tests.{bool-same, true→T, eqb-make}
-use Rattle.algebra.proofs.Counts.{only}
+use Rattle.algebra.proofs.Totals.{only}
 use Rattle.algebra.proofs.Searches.{allTo-at, allTo-make, anyTo-find}
 use Rattle.algebra.proofs.Fillings.{holds-none, holds-more}
+use Rattle.model.specs.Limits.{countLimit}
 use Rattle.model.specs.Game.{Game, gameOf, nodeMoves}
 use Rattle.model.specs.GameChecks.{isChild, shareMove, movesLeadOn}
 use Rattle.model.proofs.Tree.{below, below-is}
@@ -21,7 +22,7 @@ use Rattle.checks.specs.declared.Checked.{Checked}
 use Rattle.checks.specs.declared.Checked.the-variants.{Fine, Broken}
 use Rattle.checks.specs.Checked.{checkedOf}
 use Rattle.checks.proofs.Chains.{first-broken, then-second}
-use Rattle.records.specs.declared.NodeRecord.{NodeRecord}
+use Rattle.records.specs.declared.game.NodeRecord.{NodeRecord}
 use Rattle.records.specs.Records.{NodeRead}
 use Rattle.records.specs.Rooted.{Rooted}
 use Rattle.tree.specs.Children.{mask, met, Marked, alone, complete}
@@ -57,7 +58,7 @@ pub record Stands (g : Game) (p m i : ℕ) : Type 0 where
   pub parent : p ≡ g .parent i
   pub move : m ≡ g .move i
   pub inside : p < g .nodes
-  pub near : p < 4095
+  pub near : p < countLimit
   pub small : m < 64
 
 -- so does each whose record is read
@@ -129,9 +130,9 @@ module _ (g : Game) where
   alone-first = refl
 
   -- and no move is met
-  pub marked-first : (seen : List ℕ) → g .nodes ≤ 4095 → seen ≡ replicate 4095 0 → Marked g 1 seen
+  pub marked-first : (seen : List ℕ) → g .nodes ≤ countLimit → seen ≡ replicate countLimit 0 → Marked g 1 seen
   unfolding met anyTo isChild
-  marked-first seen few e = holds-none _ (g .nodes) 4095 seen e few (λ n. mask-none 64 (met g 1 n) (λ m. refl))
+  marked-first seen few e = holds-none _ (g .nodes) countLimit seen e few (λ n. mask-none 64 (met g 1 n) (λ m. refl))
 
   -- check 9 has two halves: where the first is broken, its answer
   pub moves-broken : {r : Checked} {n : ℕ} → r ≡ checkedOf 9 (allTo (g .nodes) (alone g)) → r ≡ Broken n → r ≡ checkedOf 9 (movesLeadOn g)

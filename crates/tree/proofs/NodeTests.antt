@@ -11,7 +11,7 @@ use Rattle.algebra.specs.Bounded.{implies}
 use Rattle.model.specs.Bits.{field}
 use Rattle.model.specs.Game.{Game, gameOf, nodeAt, isLeaf, isDecision, isChance, nodeMoves}
 use Rattle.model.specs.GameChecks.{isMoveCount, paddingZero, payloadInRange, attached}
-use Rattle.records.specs.declared.NodeRecord.{NodeRecord}
+use Rattle.records.specs.declared.game.NodeRecord.{NodeRecord}
 use Rattle.records.specs.Records.{payloadOf, NodeRead}
 use Rattle.tree.specs.Tests.{wellFormed, inRange}
 

@@ -8,11 +8,12 @@ use native.Mathlib.Numerals.{add-one}
 use lib.Dec.{T, ltb, eqb, eqb→eq}
 use lib.ListN.{getD, set, replicate}
 use borrow.Author.Tests.{lt-ltb, eq-eqb, ne-eqb}
-use Rattle.algebra.specs.Bounded.{countTo, implies}
+use Rattle.algebra.specs.Bounded.{totalTo, implies}
 use Rattle.algebra.specs.Arrays.{Holds}
 use Rattle.algebra.proofs.Tests.{T→true, implies-make, eqb-make}
-use Rattle.algebra.proofs.Counts.{only, only-most, count-bound}
+use Rattle.algebra.proofs.Totals.{only, only-most, count-bound}
 use Rattle.algebra.proofs.Fillings.{holds-none, holds-more}
+use Rattle.model.specs.Limits.{countLimit}
 use Rattle.model.specs.Game.{Game, gameOf, isDecision, isChance}
 use Rattle.model.specs.GameChecks.{childrenWeight, weightInherited, weightShared}
 use Rattle.model.proofs.Budget.{game-limits}
@@ -22,17 +23,17 @@ use Rattle.tree.proofs.Moves.{Stands}
 
 -- the weights of node n's children among the nodes below i, added up
 unfoldable pub weightTo : Game → (i n : ℕ) → ℕ
-weightTo g i n = countTo i (λ c. only (below g n c) (g .weight c))
+weightTo g i n = totalTo i (λ c. only (below g n c) (g .weight c))
 
 -- where the pass begins
-pub sums-first : (g : Game) (sums : List ℕ) → g .nodes ≤ 4095 → sums ≡ replicate 4095 0 → Holds (weightTo g 1) (g .nodes) sums
-unfolding weightTo countTo
-sums-first g sums few e = holds-none (weightTo g 1) (g .nodes) 4095 sums e few (λ n. refl)
+pub sums-first : (g : Game) (sums : List ℕ) → g .nodes ≤ countLimit → sums ≡ replicate countLimit 0 → Holds (weightTo g 1) (g .nodes) sums
+unfolding weightTo totalTo
+sums-first g sums few e = holds-none (weightTo g 1) (g .nodes) countLimit sums e few (λ n. refl)
 
 module _ {g : Game} {p m i : ℕ} (s : Stands g p m i) where
   -- what node i adds
   weight-more : (n : ℕ) → weightTo g (i + 1) n ≡ weightTo g i n + only (eqb p n) (g .weight i)
-  unfolding weightTo countTo
+  unfolding weightTo totalTo
   weight-more n = rw (add-one, lt-ltb 0 i (s .after), s .parent)
 
   -- one node more
@@ -48,11 +49,11 @@ unfolding weightTo childrenWeight
 sums-last g i sums e held = rw e at held
 
 -- a sum of a file's weights is small
-pub sum-small : (bytes : List ℕ) (i n : ℕ) → weightTo (gameOf bytes) i n ≤ i * 4095
+pub sum-small : (bytes : List ℕ) (i n : ℕ) → weightTo (gameOf bytes) i n ≤ i * countLimit
 unfolding weightTo
 sum-small bytes i n =
     let g = gameOf bytes in
-    count-bound i 4095 (λ c. only (below g n c) (g .weight c)) (λ c l. omega (arith, only-most (below g n c) (g .weight c), game-limits bytes .weights c))
+    count-bound i countLimit (λ c. only (below g n c) (g .weight c)) (λ c l. omega (arith, only-most (below g n c) (g .weight c), game-limits bytes .weights c))
 
 module _ (g : Game) (n : ℕ) where
   -- a weight of zero

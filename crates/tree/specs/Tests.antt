@@ -4,7 +4,7 @@ use mathlib.Core.Bool.{Bool, not, _&&_}
 use lib.Dec.{eqb, ltb}
 use Rattle.algebra.specs.Bounded.{implies}
 use Rattle.model.specs.GameChecks.{isMoveCount}
-use Rattle.records.specs.declared.NodeRecord.{NodeRecord}
+use Rattle.records.specs.declared.game.NodeRecord.{NodeRecord}
 
 -- the test of check 6 for one record
 unfoldable pub wellFormed : NodeRecord → Bool

@@ -6,6 +6,7 @@ ghost use Rattle.model.specs.Game.{gameOf, nodeAt};
 ghost use Rattle.model.specs.GameChecks.{movesLeadOn, childrenWeight, weightsObeyRules};
 ghost use Rattle.algebra.specs.Bounded.{allTo};
 ghost use Rattle.algebra.specs.Arrays.{Holds};
+ghost use Rattle.model.specs.Limits.{countLimit};
 ghost use Rattle.checks.specs.Checked.{checkedOf};
 ghost use Rattle.records.specs.Records.{Framed};
 ghost use Rattle.records.specs.Rooted.{Rooted};
@@ -40,7 +41,7 @@ fn mark_moves(
     nodes: usize,
     seen: &mut [u64; NodeRecord::NODES],
 ) -> Checked
-    requires { ⌜ Framed (now bytes) records nodes × Rooted (gameOf (now bytes)) × (now seen ≡ replicate 4095 0) ⌝ }
+    requires { ⌜ Framed (now bytes) records nodes × Rooted (gameOf (now bytes)) × (now seen ≡ replicate countLimit 0) ⌝ }
     ensures { λ r. ⌜ Swept (gameOf (now (bytes .entry))) r (now (seen .exit)) ⌝ }
 {
     let mut n = 1;
@@ -96,7 +97,7 @@ pub fn moves_lead_on(bytes: &[u8], records: usize, nodes: usize) -> Checked
 
 // One pass over the nodes: each one's weight is added at its parent.
 fn add_weights(bytes: &[u8], records: usize, nodes: usize, sums: &mut [u64; NodeRecord::NODES])
-    requires { ⌜ Framed (now bytes) records nodes × Rooted (gameOf (now bytes)) × (now sums ≡ replicate 4095 0) ⌝ }
+    requires { ⌜ Framed (now bytes) records nodes × Rooted (gameOf (now bytes)) × (now sums ≡ replicate countLimit 0) ⌝ }
     ensures { λ _. ⌜ Holds (childrenWeight (gameOf (now (bytes .entry)))) (gameOf (now (bytes .entry)) .nodes) (now (sums .exit)) ⌝ }
 {
     let mut n = 1;
@@ -110,7 +111,7 @@ fn add_weights(bytes: &[u8], records: usize, nodes: usize, sums: &mut [u64; Node
 
 // Whether node `n`'s weight is not zero and keeps its rule; `sum` is that of its children's weights.
 fn weight_right(bytes: &[u8], records: usize, n: usize, root_weight: u64, sum: u64) -> bool
-    requires { ⌜ (records ≡ nodeAt (now bytes) 0) × (n < 4096) × («root_weight» ≡ gameOf (now bytes) .rootWeight) × (sum ≡ childrenWeight (gameOf (now bytes)) n) ⌝ }
+    requires { ⌜ (records ≡ nodeAt (now bytes) 0) × (n < 2 ^ 12) × («root_weight» ≡ gameOf (now bytes) .rootWeight) × (sum ≡ childrenWeight (gameOf (now bytes)) n) ⌝ }
     ensures { λ r. ⌜ r ≡ weightTest (gameOf (now (bytes .entry))) n ⌝ }
 {
     let node = NodeRecord::read(bytes, records, n);

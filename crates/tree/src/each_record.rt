@@ -1,6 +1,6 @@
 // Checks 5 to 8: each set entry and each node record by itself.
 ghost use mathlib.Core.Path.{_≡_};
-ghost use Prim.Native.Nat.{_<_};
+ghost use Prim.Native.Nat.{_<_, _^_};
 ghost use Rattle.model.specs.Game.{gameOf, nodeAt};
 ghost use Rattle.model.specs.GameChecks.{isMoveCount, setMovesInRange, recordsWellFormed, payloadsInRange, attached, nodesAttached};
 ghost use Rattle.tree.specs.Tests.{wellFormed, inRange};
@@ -43,7 +43,7 @@ pub fn set_moves_in_range(bytes: &[u8], sets: usize) -> Checked
 fn well_formed(node: NodeRecord) -> bool
     ensures { λ r. ⌜ r ≡ wellFormed node ⌝ }
 {
-    if node.kind == 3 {
+    if node.kind == Payload::NO_KIND {
         false
     } else {
         node.payload.padding == 0
@@ -97,7 +97,7 @@ pub fn payloads_in_range(bytes: &[u8], records: usize, nodes: usize, sets: usize
 
 // Whether node `n` hangs where it must: the root at 0, any other at a move of an earlier inner node.
 fn is_attached(bytes: &[u8], records: usize, n: usize) -> bool
-    requires { ⌜ (records ≡ nodeAt (now bytes) 0) × (n < 4096) ⌝ }
+    requires { ⌜ (records ≡ nodeAt (now bytes) 0) × (n < 2 ^ 12) ⌝ }
     ensures { λ r. ⌜ r ≡ attached (gameOf (now (bytes .entry))) n ⌝ }
 {
     let node = NodeRecord::read(bytes, records, n);

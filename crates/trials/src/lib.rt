@@ -2,6 +2,7 @@
 ghost use Prim.Native.Nat.{_≤_};
 ghost use lib.ListN.{length};
 ghost use Rattle.io.specs.Counts.{Counts};
+use records::Header;
 
 pub mod checks;
 pub mod lists;
@@ -16,7 +17,7 @@ pub use output::say_signed;
 pub use output::say_signed_numbers;
 
 // One more than the bytes of the longest legal file, so that a longer one is refused and not cut to fit.
-pub const ROOM: usize = 36861;
+pub const ROOM: usize = Header::LONGEST_FILE + 1;
 
 // What a list's cases are tried for: their answers, or their answers with buffers of many lengths.
 pub enum Trial {

@@ -1,9 +1,11 @@
 // Tries payoff tables, in columns and as rows, and values: those of each case that the list `cases` names, then the tables of those that `rooms` names, into buffers of each length.
 ghost use Prim.Native.Nat.{_≤_};
 ghost use lib.ListN.{length};
+ghost use Rattle.model.specs.Limits.{countLimit};
 use entry::Row;
 use entry::TableAnswer;
 use entry::ValuesAnswer;
+use records::NodeRecord;
 use text::amount::magnitude;
 use trials::ROOM;
 use trials::Trial;
@@ -21,7 +23,7 @@ use trials::say_signed;
 use trials::say_signed_numbers;
 
 // As many rows as the longest table has.
-const ROWS: usize = 4095;
+const ROWS: usize = NodeRecord::NODES;
 
 // A longer table is shown by its ends and checks.
 const SHOWN: usize = 12;
@@ -126,7 +128,7 @@ fn say_answer(answer: TableAnswer) {
 
 // The heading of a table, and how many rows stand in buffers that have room for all.
 fn say_size(answer: TableAnswer) -> usize
-    ensures { λ r. ⌜ r ≤ 4095 ⌝ }
+    ensures { λ r. ⌜ r ≤ countLimit ⌝ }
 {
     say_answer(answer);
     say(b"\n");
@@ -159,14 +161,14 @@ fn say_values(answer: ValuesAnswer) {
             best1,
             best2,
             root_weight,
-            first,
-            second,
+            d1,
+            d2,
         } => {
             say_sum_pair(b": values ", value1, value2);
             say_sum_pair(b" best ", best1, best2);
             say_number(b" over ", root_weight);
-            say_number(b" ", first);
-            say_number(b" ", second);
+            say_number(b" ", d1);
+            say_number(b" ", d2);
         }
         ValuesAnswer::Refused(number) => say_number(b": refusal ", number),
     }
@@ -242,7 +244,7 @@ fn say_held(row: Row) {
 
 // The first `room` rows.
 fn say_all_held(rows: [Row; ROWS], room: usize)
-    requires { ⌜ room ≤ 4095 ⌝ }
+    requires { ⌜ room ≤ countLimit ⌝ }
 {
     let mut at = 0;
     while at < room {
@@ -272,7 +274,7 @@ fn check_of_rows(rows: [Row; ROWS]) -> u64 {
 
 // The answer, and what the rows hold: each of a few, or a check of all.
 fn say_as_rows(answer: TableAnswer, rows: [Row; ROWS], room: usize)
-    requires { ⌜ room ≤ 4095 ⌝ }
+    requires { ⌜ room ≤ countLimit ⌝ }
 {
     say_answer(answer);
     if room <= MOST {
@@ -285,7 +287,7 @@ fn say_as_rows(answer: TableAnswer, rows: [Row; ROWS], room: usize)
 
 // The line of `room` rows of 7s.
 fn try_as_rows(game: &[u8], room: usize)
-    requires { ⌜ room ≤ 4095 ⌝ }
+    requires { ⌜ room ≤ countLimit ⌝ }
 {
     let held = Row {
         sequence1: 7,

@@ -22,15 +22,15 @@ fn say_refusal(number: u64) {
 }
 
 // The denominators of a plan that fits.
-fn say_fits(first: u64, second: u64) {
-    say_number(b": plan of ", first);
-    say_number(b" ", second);
+fn say_fits(d1: u64, d2: u64) {
+    say_number(b": plan of ", d1);
+    say_number(b" ", d2);
 }
 
 // The answer to a plan file.
 fn say_plan(answer: PlanAnswer) {
     match answer {
-        PlanAnswer::Fits { first, second } => say_fits(first, second),
+        PlanAnswer::Fits { d1, d2 } => say_fits(d1, d2),
         PlanAnswer::Refused(number) => say_refusal(number),
     }
 }
@@ -38,12 +38,8 @@ fn say_plan(answer: PlanAnswer) {
 // The answer of the call for all weights, with their number.
 fn say_given(answer: WeightsAnswer) {
     match answer {
-        WeightsAnswer::Given {
-            first,
-            second,
-            count,
-        } => {
-            say_fits(first, second);
+        WeightsAnswer::Given { d1, d2, count } => {
+            say_fits(d1, d2);
             say_number(b" count ", count);
         }
         WeightsAnswer::Refused(number) => say_refusal(number),

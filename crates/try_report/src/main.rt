@@ -1,6 +1,8 @@
 // Tries the desk program's text: for each case that the list `cases` names; into buffers around the text's length for those that `rooms` names; and the lines of some refusals.
-ghost use Prim.Native.Nat.{_≤_};
+ghost use Prim.Native.Nat.{suc, _≤_};
+ghost use Rattle.report.specs.Whole.{most};
 use entry::WriteAnswer;
+use report::LINE;
 use trials::ROOM;
 use trials::Trial;
 use trials::checks::taken_in;
@@ -13,10 +15,7 @@ use trials::say_heading;
 use trials::say_number;
 
 // One more than the bytes of the longest text.
-const MOST: usize = 69795;
-
-// As many bytes as the longest line of a refusal has.
-const LINE: usize = 29;
+const MOST: usize = report::MOST + 1;
 
 // A check after one more byte.
 fn byte_taken_in(check: u64, byte: u8) -> u64 {
@@ -65,7 +64,7 @@ fn try_text(game: &[u8], plan: &[u8]) {
 
 // How many bytes the report on a pair has, at most one fewer than the buffer.
 fn length_of(game: &[u8], plan: &[u8]) -> usize
-    ensures { λ r. ⌜ r ≤ 69794 ⌝ }
+    ensures { λ r. ⌜ r ≤ most ⌝ }
 {
     let mut text = [0u8; MOST];
     let answer = entry::report(game, plan, &mut text);
@@ -96,7 +95,7 @@ fn try_buffer(game: &[u8], plan: &[u8], buffer: &mut [u8]) {
 
 // A buffer of 7s cut to `room` bytes.
 fn try_room(game: &[u8], plan: &[u8], room: usize)
-    requires { ⌜ room ≤ 69795 ⌝ }
+    requires { ⌜ room ≤ suc most ⌝ }
 {
     let mut buffer = [7u8; MOST];
     try_buffer(game, plan, &mut buffer[..room]);

@@ -1,6 +1,8 @@
 // Tries the round trips: the study game of document 003 with its plans M and F, files that are refused, and buffers that are too short.
+use checks::WriteAnswer;
 use fields::FieldsAnswer;
 use plans::WeightsAnswer;
+use records::Header;
 use trials::ROOM;
 use trials::load;
 use trials::say;
@@ -8,7 +10,9 @@ use trials::say_buffer;
 use trials::say_number;
 use trials::say_numbers;
 use trials::say_signed_numbers;
-use writers::WriteAnswer;
+
+// A weight that does not fit its field, which is as wide as a count's.
+const TOO_LARGE: u64 = 1 << Header::COUNT_BITS;
 
 // What each lent byte is before the call.
 const HELD: u8 = 165;
@@ -29,13 +33,9 @@ fn say_written(answer: WriteAnswer) {
 // The answer of what reads weights back.
 fn say_weights(answer: WeightsAnswer) {
     match answer {
-        WeightsAnswer::Given {
-            first,
-            second,
-            count,
-        } => {
-            say_number(b": given ", first);
-            say_number(b" ", second);
+        WeightsAnswer::Given { d1, d2, count } => {
+            say_number(b": given ", d1);
+            say_number(b" ", d2);
             say_number(b" count ", count);
         }
         WeightsAnswer::Refused(number) => say_refusal(number),
@@ -110,7 +110,7 @@ fn try_weights_of(game: &[u8], plan: &[u8], refused: &[u8]) {
     plans::plan_fields(game, plan, &mut weights);
     try_weights(game, 3, 3, &weights);
     try_weights(game, 4, 3, &weights);
-    try_weights(game, 3, 4096, &weights);
+    try_weights(game, 3, TOO_LARGE, &weights);
     try_weights(refused, 3, 3, &weights);
     let ones = [1u64; 5001];
     try_weights(game, 3, 3, &ones);
@@ -272,8 +272,8 @@ fn main() {
     try_plan(game, game);
     try_plan(refused, m);
     try_weights_of(game, m, refused);
-    // 2 is not the root's weight, and 4,096 does not fit its field.
+    // 2 is not the root's weight, and the last does not fit its field.
     try_fields_of(game, 1);
     try_fields_of(game, 2);
-    try_fields_of(game, 4096);
+    try_fields_of(game, TOO_LARGE);
 }

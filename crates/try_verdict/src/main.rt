@@ -1,6 +1,8 @@
 // Tries the verdict on pairs: a line for each case that the list `cases` names, then those that `rooms` names with buffers of each length.
 ghost use Prim.Native.Nat.{_≤_};
+ghost use Rattle.model.specs.Limits.{countLimit};
 use entry::VerdictAnswer;
+use records::NodeRecord;
 use trials::ROOM;
 use trials::Trial;
 use trials::checks::check_of;
@@ -15,7 +17,7 @@ use trials::say_numbers;
 use trials::say_signed;
 
 // As many moves as the longest strategy has.
-const MOVES: usize = 4095;
+const MOVES: usize = NodeRecord::NODES;
 
 // A longer strategy is shown by a check.
 const SHOWN: usize = 12;
@@ -28,12 +30,12 @@ fn say_verdict(answer: VerdictAnswer) {
     match answer {
         VerdictAnswer::Accepted { base } => say_number(b": accepted over ", base),
         VerdictAnswer::Deviation {
-            player,
+            player_number,
             gain,
             base,
             sets: _,
         } => {
-            say_number(b": player ", player);
+            say_number(b": player ", player_number);
             say_signed(b" gain ", gain);
             say_number(b" over ", base);
         }
@@ -43,10 +45,10 @@ fn say_verdict(answer: VerdictAnswer) {
 
 // How many moves stand in a buffer that has room for all.
 fn count_of(answer: VerdictAnswer) -> usize
-    ensures { λ r. ⌜ r ≤ 4095 ⌝ }
+    ensures { λ r. ⌜ r ≤ countLimit ⌝ }
 {
     let VerdictAnswer::Deviation {
-        player: _,
+        player_number: _,
         gain: _,
         base: _,
         sets,

@@ -1,9 +1,10 @@
 // Tries the writers: a line for each case that the lists `games` and `plans` name, then lists of thousands of entries.
 // A case's file is words of 64 bits, most significant byte first, each at a fixed place.
-ghost use Prim.Native.Nat.{_≤_, _+_};
+ghost use Prim.Native.Nat.{_≤_, _+_, _^_};
 ghost use mathlib.Core.Path.{_≡_};
 ghost use lib.ListN.{length, take};
 use entry::WriteAnswer;
+use records::NodeRecord;
 use trials::ROOM;
 use trials::lists::line_at;
 use trials::lists::next_line;
@@ -11,6 +12,9 @@ use trials::load;
 use trials::say;
 use trials::say_buffer;
 use trials::say_number;
+
+// One more than a game has nodes or sets.
+const TOO_MANY: usize = NodeRecord::NODES + 1;
 
 // The most words of a case: a game's room and D0, then ten lists of a count and 16 entries.
 const WORDS: usize = 172;
@@ -195,14 +199,14 @@ fn try_alike(sets: &[u64], nodes: &[u64], payoffs: &[i64]) {
 
 // The line of a game of so many sets and nodes, all their fields 0.
 fn try_long_game(sets: usize, nodes: usize)
-    requires { ⌜ (sets ≤ 4096) × (nodes ≤ 4096) ⌝ }
+    requires { ⌜ (sets ≤ 2 ^ 12) × (nodes ≤ 2 ^ 12) ⌝ }
 {
     say_number(b"", sets as u64);
     say_number(b" sets and ", nodes as u64);
     say(b" nodes");
-    let of_sets = [0u64; 4096];
-    let of_nodes = [0u64; 4096];
-    let payoffs = [0i64; 4096];
+    let of_sets = [0u64; TOO_MANY];
+    let of_nodes = [0u64; TOO_MANY];
+    let payoffs = [0i64; TOO_MANY];
     try_alike(&of_sets[..sets], &of_nodes[..nodes], &payoffs[..nodes]);
 }
 
@@ -226,12 +230,12 @@ fn try_long_plan(count: usize)
 fn main() {
     try_list(Kind::Game, b"games");
     try_list(Kind::Plan, b"plans");
-    try_long_game(4095, 0);
-    try_long_game(4096, 0);
-    try_long_game(0, 4095);
-    try_long_game(0, 4096);
-    try_long_game(4095, 4095);
-    try_long_game(4096, 4096);
-    try_long_plan(4095);
+    try_long_game(NodeRecord::NODES, 0);
+    try_long_game(TOO_MANY, 0);
+    try_long_game(0, NodeRecord::NODES);
+    try_long_game(0, TOO_MANY);
+    try_long_game(NodeRecord::NODES, NodeRecord::NODES);
+    try_long_game(TOO_MANY, TOO_MANY);
+    try_long_plan(NodeRecord::NODES);
     try_long_plan(5001);
 }

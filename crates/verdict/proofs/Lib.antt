@@ -1,5 +1,5 @@
-pub mod Evaluated
-pub mod Judged
-pub mod Shown
+pub mod EvaluatedPairs
+pub mod Showing
 pub mod Strategies
-pub mod Valued
+pub mod ValuesAnswered
+pub mod VerdictAnswered

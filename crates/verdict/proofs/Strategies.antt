@@ -5,7 +5,7 @@ use mathlib.Core.Bool.{cond}
 use mathlib.Core.List.{List, [], _∷_, map}
 use lib.Dec.{T}
 use lib.ListN.{set}
-use Rattle.algebra.specs.Arrays.{Holds}
+use Rattle.algebra.specs.Arrays.{item, Holds}
 use Rattle.algebra.proofs.Lists.{joinTo-cong, map-joinTo}
 use Rattle.algebra.proofs.Tests.{dec, cond-yes, cond-no}
 use Rattle.model.specs.Game.{Game, Player, owns}
@@ -13,20 +13,19 @@ use Rattle.model.specs.Sequences.{Move}
 use Rattle.model.specs.Plan.{RealizationPlan}
 use Rattle.model.specs.Earnings.{setsOf}
 use Rattle.model.specs.BestResponse.{bestMove, bestAt, bestResponse}
-use Rattle.model.specs.Writing.{entry}
 use Rattle.form.specs.BestMoves.{ownBestMove}
 
 -- Moves by set number that are p's best moves against y.
 module _ (g : Game) (p : Player) (y : RealizationPlan) where
   -- his sets' moves are those of the best response
-  pub strategy-is : (moves : List ℕ) → Holds (ownBestMove g p y) (g .sets) moves → map (entry moves) (setsOf g p) ≡ map (λ (x : Move). x .1) (bestResponse g p y)
+  pub strategy-is : (moves : List ℕ) → Holds (ownBestMove g p y) (g .sets) moves → map (item moves) (setsOf g p) ≡ map (λ (x : Move). x .1) (bestResponse g p y)
   unfolding setsOf bestResponse bestAt ownBestMove
   strategy-is moves held =
-      map-joinTo (entry moves) (g .sets) _
+      map-joinTo (item moves) (g .sets) _
       ∙ joinTo-cong (g .sets) _ _ (λ h l. at-set h l (dec (owns g p h)))
       ∙ sym (map-joinTo (λ (x : Move). x .1) (g .sets) _)
     where
-      at-set : (h : ℕ) → h < g .sets → Dec (T (owns g p h)) → map (entry moves) (cond (owns g p h) (h ∷ []) []) ≡ map (λ (x : Move). x .1) (cond (owns g p h) (bestAt g p y h) [])
+      at-set : (h : ℕ) → h < g .sets → Dec (T (owns g p h)) → map (item moves) (cond (owns g p h) (h ∷ []) []) ≡ map (λ (x : Move). x .1) (cond (owns g p h) (bestAt g p y h) [])
       at-set h l (yes o) =
           rw (cond-yes (owns g p h) (h ∷ []) [] o, cond-yes {A = List Move} (owns g p h) ((h, bestMove g p y h) ∷ []) [] o)
           (ap (λ (m : ℕ). m ∷ []) (held .at h l ∙ cond-yes (owns g p h) (bestMove g p y h) 0 o))

@@ -15,5 +15,5 @@ valuesAnswered (Values.Refused k) = refused k
 -- what is stated, or the refusal's number
 abbrev pub verdictAnswered : VerdictAnswer → Answer Stated
 verdictAnswered (Verdict.Accepted base) = given (accepted base)
-verdictAnswered (Verdict.Deviation player gain base sets) = given (deviates player gain base sets)
+verdictAnswered (Verdict.Deviation number gain base sets) = given (deviates number gain base sets)
 verdictAnswered (Verdict.Refused k) = refused k

@@ -6,7 +6,7 @@ use Rattle.model.specs.Game.{Player, gameOf, other}
 use Rattle.model.specs.Plan.{planPairOf}
 use Rattle.records.specs.Records.{headerOf}
 use Rattle.sequences.specs.Sets.{countsOf}
-use Rattle.plan.specs.Header.{denominatorsOf}
+use Rattle.records.specs.PlanRecords.{denominatorsOf}
 use Rattle.form.specs.BestMoves.{ownBestMove}
 use Rattle.form.specs.Values.{valuesOf}
 use Rattle.verdict.specs.declared.PairEvaluated.{PairEvaluated}

@@ -7,5 +7,5 @@ use Rattle.model.specs.Call.{Call}
 use Rattle.model.specs.calls.Verdict.{Stated, deviates}
 
 -- A deviation is stated of the moves of its strategy: only 18, for the one buffer, which takes them.
-unfoldable pub showing : (player : ℕ) → (gain : ℤ) → (base : ℕ) → Call (List ℕ) (ℕ ∷ []) Stated
-showing player gain base = record { rows = []; result = λ moves. deviates player gain base (length moves); written = λ moves. (moves, tt) }
+unfoldable pub showing : (number : ℕ) → (gain : ℤ) → (base : ℕ) → Call (List ℕ) (ℕ ∷ []) Stated
+showing number gain base = record { rows = []; result = λ moves. deviates number gain base (length moves); written = λ moves. (moves, tt) }

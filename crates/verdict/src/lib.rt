@@ -20,8 +20,8 @@ pub enum ValuesAnswer {
         best1: i64,
         best2: i64,
         root_weight: u64,
-        first: u64,
-        second: u64,
+        d1: u64,
+        d2: u64,
     },
     Refused(u64),
 }
@@ -33,7 +33,7 @@ pub enum VerdictAnswer {
         base: u64,
     },
     Deviation {
-        player: u64,
+        player_number: u64,
         gain: i64,
         base: u64,
         sets: u64,

@@ -2,11 +2,13 @@
 ghost use mathlib.Core.Path.{_≡_};
 ghost use Prim.Native.Nat.{_≤_};
 ghost use lib.ListN.{length};
+ghost use Rattle.model.specs.Limits.{countLimit};
 ghost use Rattle.model.specs.Game.{one, two};
 ghost use Rattle.model.specs.Checks.{pairRefusal};
 ghost use Rattle.verdict.specs.Pairs.{pairEvaluated, evaluatedRefusal, movesAfter};
 use super::PairEvaluated;
 use plan::PairAnswer;
+use records::NodeRecord;
 
 // The number of a pair's refusal, or 0.
 pub fn refusal(answer: PairEvaluated) -> u64
@@ -25,11 +27,11 @@ pub fn evaluate(
     moves1: &mut [usize],
     moves2: &mut [usize],
 ) -> PairEvaluated
-    requires { ⌜ (4095 ≤ length (now moves1)) × (4095 ≤ length (now moves2)) ⌝ }
+    requires { ⌜ (countLimit ≤ length (now moves1)) × (countLimit ≤ length (now moves2)) ⌝ }
     ensures { λ r. ⌜ (r ≡ pairEvaluated (pairRefusal (now (game .entry)) (now (plan .entry))) (now (game .entry)) (now (plan .entry))) × (now (moves1 .exit) ≡ movesAfter (pairRefusal (now (game .entry)) (now (plan .entry))) (now (game .entry)) (now (plan .entry)) one (now (moves1 .entry))) × (now (moves2 .exit) ≡ movesAfter (pairRefusal (now (game .entry)) (now (plan .entry))) (now (game .entry)) (now (plan .entry)) two (now (moves2 .entry))) ⌝ }
 {
-    let mut x = [0u64; 4095];
-    let mut y = [0u64; 4095];
+    let mut x = [0u64; NodeRecord::NODES];
+    let mut y = [0u64; NodeRecord::NODES];
     let answer = plan::pair::read(game, plan, &mut x, &mut y);
     let PairAnswer::Fits(pair) = answer else {
         return PairEvaluated::Refused(plan::pair::refusal(answer));

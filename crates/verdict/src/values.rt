@@ -1,17 +1,18 @@
 // Values and best values of a pair.
 ghost use mathlib.Core.Path.{_≡_};
-ghost use Rattle.model.specs.calls.Values.{values};
+ghost use Rattle.model.specs.calls.Values.{valuesCall};
 ghost use Rattle.verdict.specs.Answers.{valuesAnswered};
 use super::PairEvaluated;
 use super::ValuesAnswer;
 use super::pairs;
+use records::NodeRecord;
 
 // The players' values and best values, with what they are counted over.
 pub fn values(game: &[u8], plan: &[u8]) -> ValuesAnswer
-    ensures { λ r. ⌜ valuesAnswered r ≡ values (now (game .entry)) (now (plan .entry)) .answer ⌝ }
+    ensures { λ r. ⌜ valuesAnswered r ≡ valuesCall (now (game .entry)) (now (plan .entry)) .answer ⌝ }
 {
-    let mut moves1 = [0usize; 4095];
-    let mut moves2 = [0usize; 4095];
+    let mut moves1 = [0usize; NodeRecord::NODES];
+    let mut moves2 = [0usize; NodeRecord::NODES];
     let evaluated = pairs::evaluate(game, plan, &mut moves1, &mut moves2);
     let PairEvaluated::Evaluated { pair, values } = evaluated else {
         return ValuesAnswer::Refused(pairs::refusal(evaluated));
@@ -22,7 +23,7 @@ pub fn values(game: &[u8], plan: &[u8]) -> ValuesAnswer
         best1: values.best1,
         best2: values.best2,
         root_weight: pair.header.root_weight,
-        first: pair.denominators.first,
-        second: pair.denominators.second,
+        d1: pair.denominators.d1,
+        d2: pair.denominators.d2,
     }
 }

@@ -1,8 +1,7 @@
-pub mod Filled
+pub mod EachFits
 pub mod GameFiles
-pub mod Given
+pub mod GameWriter
 pub mod Nodes
-pub mod Passes
 pub mod PlanFiles
 pub mod Puttings
 pub mod Refusals

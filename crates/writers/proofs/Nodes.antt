@@ -1,18 +1,17 @@
 -- Nodes by their kinds, and their records.
-use Prim.Native.Nat.{ℕ, zero, suc, _+_, _*_, _≤_}
+use Prim.Native.Nat.{ℕ, zero, suc, _*_}
 use mathlib.Core.Path.{_≡_, refl, ap, _∙_}
 use mathlib.Core.Bool.{Bool, false}
-use mathlib.Core.List.{List, _++_}
-use native.Mathlib.Omega.{arith}
+use mathlib.Core.List.{[], _∷_}
 use lib.ListN.{length, length-append}
-use Rattle.algebra.specs.Arrays.{placed}
-use Rattle.model.specs.Bits.{bits, packed}
-use Rattle.model.specs.Writing.{GameFields, entry, setBits, payloadBits, nodeBits, kindFits}
+use Rattle.algebra.specs.Arrays.{item, itemZ}
+use Rattle.algebra.specs.Bounded.{allTo}
+use Rattle.algebra.proofs.Searches.{allTo-cong}
+use Rattle.model.specs.Writing.{GameFields, setBits, payloadBits, nodeBits, kindFits}
 use Rattle.model.proofs.Bits.{length-bits}
-use Rattle.bits.specs.Puts.{bitsPut}
-use Rattle.writers.specs.declared.records.NodeRecord.{NodeRecord}
-use Rattle.writers.specs.GameWriter.{nodeOf, alone}
-use Rattle.writers.proofs.Filled.{four-placed, both-placed}
+use Rattle.records.specs.declared.game.NodeRecord.{NodeRecord}
+use Rattle.records.specs.Records as Records
+use Rattle.writers.specs.GameWriter.{kindLists, nodeOf}
 
 -- a kind past 2 does not fit
 pub no-kind : (t : GameFields) (kind n : ℕ) → ¬ (kind ≡ 0) → ¬ (kind ≡ 1) → ¬ (kind ≡ 2) → false ≡ kindFits t kind n
@@ -24,31 +23,45 @@ no-kind t (suc (suc (suc k))) n a b c = refl
 
 -- the test of node n's kind
 abbrev pub kindFitsAt : GameFields → ℕ → Bool
-kindFitsAt t n = kindFits t (entry (t .kinds) n) n
+kindFitsAt t n = kindFits t (item (t .kinds) n) n
 
--- the test of a node is that of the node alone
-kind-alone : (t : GameFields) (kind n : ℕ) → kindFits (alone (nodeOf t n)) kind 0 ≡ kindFits t kind n
+-- of the lists it takes what its node has
+abbrev pub kindAlone : GameFields → ℕ → GameFields
+kindAlone t n = kindLists (item (t .kinds) n ∷ []) (item (t .nodeSets) n ∷ []) (item (t .chanceMoves) n ∷ []) (itemZ (t .payoffs1) n ∷ []) (itemZ (t .payoffs2) n ∷ [])
+
+pub kind-alone : (t : GameFields) (kind n : ℕ) → kindFits (kindAlone t n) kind 0 ≡ kindFits t kind n
 unfolding kindFits
 kind-alone t zero n = refl
 kind-alone t (suc zero) n = refl
 kind-alone t (suc (suc zero)) n = refl
 kind-alone t (suc (suc (suc k))) n = refl
 
--- the test that is made of node n
-pub kind-made : (t : GameFields) (n : ℕ) (x : NodeRecord) {b : Bool} → x ≡ nodeOf t n → b ≡ kindFits (alone x) (x .kind) 0 → b ≡ kindFitsAt t n
-kind-made t n x e is = is ∙ ap (λ (y : NodeRecord). kindFits (alone y) (y .kind) 0) e ∙ kind-alone t (entry (t .kinds) n) n
+-- and none of the other lists
+kind-same : (t : GameFields) (kind n : ℕ) → kindFits (kindLists (t .kinds) (t .nodeSets) (t .chanceMoves) (t .payoffs1) (t .payoffs2)) kind n ≡ kindFits t kind n
+unfolding kindFits
+kind-same t zero n = refl
+kind-same t (suc zero) n = refl
+kind-same t (suc (suc zero)) n = refl
+kind-same t (suc (suc (suc k))) n = refl
 
--- a payload is that of the node alone
-payload-alone : (t : GameFields) (kind n : ℕ) → payloadBits (alone (nodeOf t n)) kind 0 ≡ payloadBits t kind n
-unfolding payloadBits
-payload-alone t zero n = refl
-payload-alone t (suc zero) n = refl
-payload-alone t (suc (suc k)) n = refl
+pub kinds-same : (t : GameFields) (count : ℕ) → allTo count (kindFitsAt (kindLists (t .kinds) (t .nodeSets) (t .chanceMoves) (t .payoffs1) (t .payoffs2))) ≡ allTo count (kindFitsAt t)
+kinds-same t count = allTo-cong count _ _ (λ n l. kind-same t (item (t .kinds) n) n)
 
--- so is a node record
-pub node-alone : (t : GameFields) (n : ℕ) → nodeBits (alone (nodeOf t n)) 0 ≡ nodeBits t n
-unfolding nodeBits
-node-alone t n = rw (payload-alone t (entry (t .kinds) n) n)
+-- the bits of a node's payload, by its kind
+payload-is : (t : GameFields) (kind n : ℕ) → Records.payloadBits kind (nodeOf t n .payload) ≡ payloadBits t kind n
+unfolding Records.payloadBits payloadBits
+payload-is t zero n = refl
+payload-is t (suc zero) n = refl
+payload-is t (suc (suc k)) n = refl
+
+-- the bits of node n's record are the model's
+pub node-is : (t : GameFields) (n : ℕ) → Records.nodeBits (nodeOf t n) ≡ nodeBits t n
+unfolding Records.nodeBits nodeBits
+node-is t n = rw (payload-is t (item (t .kinds) n) n)
+
+-- the record that is made of node n
+pub record-made : (t : GameFields) (n : ℕ) (x : NodeRecord) → x ≡ nodeOf t n → Records.nodeBits x ≡ nodeBits t n
+record-made t n x e = ap Records.nodeBits e ∙ node-is t n
 
 -- 32 bits of payload
 payload-width : (t : GameFields) (kind n : ℕ) → length (payloadBits t kind n) ≡ 32
@@ -66,16 +79,3 @@ node-width t n = simp (length-append, length-bits, payload-width)
 pub set-width : (t : GameFields) (h : ℕ) → length (setBits t h) ≡ 8 * 1
 unfolding setBits
 set-width t h = simp (length-append, length-bits)
-
--- the record that is made of node n
-pub record-made : (t : GameFields) (n : ℕ) (x : NodeRecord) → x ≡ nodeOf t n → nodeBits (alone x) 0 ≡ nodeBits t n
-record-made t n x e = ap (λ (y : NodeRecord). nodeBits (alone y) 0) e ∙ node-alone t n
-
--- the front of a node record put, and its payload after it
-pub record-placed : (x : NodeRecord) (from : ℕ) (out : List ℕ) {front after : List ℕ} → from + 8 ≤ length out → front ≡ bitsPut out (8 * from) (bits 2 (x .kind) ++ bits 12 (x .parent) ++ bits 6 (x .place) ++ bits 12 (x .weight)) → after ≡ placed (from + 4) (packed 4 (payloadBits (alone x) (x .kind) 0)) front → after ≡ placed from (packed 8 (nodeBits (alone x) 0)) out
-unfolding nodeBits
-record-placed x from out room e f =
-    let fields = bits 2 (x .kind) ++ bits 12 (x .parent) ++ bits 6 (x .place) ++ bits 12 (x .weight) in
-    let first = four-placed 4 from 2 (x .kind) 12 (x .parent) 6 (x .place) 12 (x .weight) out refl (omega arith) e in
-    let size : length fields ≡ 8 * 4 = simp (length-append, length-bits) in
-    rw (f, first) (both-placed 4 4 from fields (payloadBits (alone x) (x .kind) 0) out size (payload-width (alone x) (x .kind) 0) (omega arith))

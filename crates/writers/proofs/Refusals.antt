@@ -13,13 +13,13 @@ use Rattle.checks.specs.declared.Checked.{Checked}
 use Rattle.checks.specs.declared.Checked.the-variants.{Fine, Broken}
 use Rattle.checks.specs.Checked.{checkedOf, numberOf}
 use Rattle.checks.proofs.Chains.{begin, passes, stops, ends, fine-holds, fine-test, call-refuses, call-short, call-gives}
-use Rattle.writers.specs.declared.WriteAnswer.{WriteAnswer}
-use Rattle.writers.specs.declared.WriteAnswer.the-variants.{Written, Refused}
-use Rattle.writers.specs.Answers.{writeAnswered}
+use Rattle.checks.specs.declared.WriteAnswer.{WriteAnswer}
+use Rattle.checks.specs.declared.WriteAnswer.the-variants.{Written, Refused}
+use Rattle.checks.specs.Answers.{writeAnswered}
 
 -- a result that has room is no longer than its buffer
-pub has-room : {n room : ℕ} {a : Checked} → a ≡ checkedOf 18 (leb n room) → a ≡ Fine → n ≤ room
-has-room {n} {room} e f = leb→le n room (fine-test 18 (leb n room) e f)
+pub has-room : {n size room : ℕ} {a : Checked} → size ≡ n → a ≡ checkedOf 18 (leb size room) → a ≡ Fine → n ≤ room
+has-room {size} {room} is e f = rw (← is) (leb→le size room (fine-test 18 (leb size room) e f))
 
 -- A writer: it tests whether what is given fits, and puts the file's bytes.
 module _ {A : Type 0} (fits : A → Bool) (Misfit : A → Type 0) (bytes : A → List ℕ) (t : A) (out : List ℕ) where

@@ -1,17 +1,26 @@
 // Refusal 17: whether the numbers given to a writer fit their fields.
 ghost use mathlib.Core.Path.{_≡_};
-ghost use Prim.Native.Nat.{_<_};
+ghost use Prim.Native.Nat.{_^_, _<_};
+ghost use lib.Dec.{T, ltb};
 ghost use Rattle.model.specs.Writing.{allFit, fitsSigned, allFitSigned};
+use records::Payload;
 
-// Whether every number fits a field of `width` bits.
+// Whether a number fits a field of `width` bits.
+pub fn fits_width(number: u64, width: usize) -> bool
+    requires { ⌜ width < 64 ⌝ }
+    ensures { λ r. ⌜ r ≡ ltb number (2 ^ width) ⌝ }
+{
+    number < bits::power(width)
+}
+
+// Whether every number does.
 pub fn all_fit(numbers: &[u64], width: usize) -> bool
     requires { ⌜ width < 64 ⌝ }
     ensures { λ r. ⌜ r ≡ allFit width (now (numbers .entry)) ⌝ }
 {
-    let limit = bits::power(width);
     let mut i = 0;
     while i < numbers.len() {
-        if numbers[i] < limit {
+        if fits_width(numbers[i], width) {
             i += 1;
         } else {
             return false;
@@ -20,11 +29,15 @@ pub fn all_fit(numbers: &[u64], width: usize) -> bool
     true
 }
 
-// Whether an integer fits 16 bits in two's complement.
+// Whether an integer fits the field of a payoff.
 fn fits_signed(x: i64) -> bool
     ensures { λ r. ⌜ r ≡ fitsSigned 16 x ⌝ }
 {
-    if x < -32768 { false } else { x <= 32767 }
+    if x < Payload::LEAST {
+        false
+    } else {
+        x <= Payload::GREATEST
+    }
 }
 
 // Whether every integer does.
@@ -40,4 +53,12 @@ pub fn all_fit_signed(numbers: &[i64]) -> bool
         }
     }
     true
+}
+
+// A payoff that fits its field, as its record has it.
+pub fn narrow(x: i64) -> i16
+    requires { ⌜ T (fitsSigned 16 x) ⌝ }
+    ensures { λ r. ⌜ r ≡ x ⌝ }
+{
+    x as i16
 }

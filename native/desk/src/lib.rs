@@ -1,6 +1,6 @@
-//! Safe wrappers over the proved library's exports, whose declarations are held against the
-//! Rattle source by a test and are each used by the differential tests; and the built program,
-//! run in folders.
+//! Safe wrappers over the proved library's exports, whose declarations are written from the
+//! Rattle source and are each used by the differential tests; and the built program, run in
+//! folders.
 
 pub mod drawn;
 pub mod form;

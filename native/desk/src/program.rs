@@ -5,6 +5,7 @@ use std::io;
 use std::path::{Path, PathBuf};
 use std::process::{self, Command};
 use std::sync::atomic::{AtomicUsize, Ordering};
+use std::sync::OnceLock;
 
 /// Where `rt check desk` puts the program.
 pub fn built() -> PathBuf {
@@ -44,9 +45,16 @@ impl Folder {
         fs::write(self.plan(), plan)
     }
 
+    /// The program, to be run here.
+    pub fn command(&self) -> Command {
+        let mut command = Command::new(built());
+        command.current_dir(&self.path);
+        command
+    }
+
     /// What the program prints here.
     pub fn printed(&self) -> io::Result<String> {
-        printed(Command::new(built()).current_dir(&self.path))
+        printed(&mut self.command())
     }
 }
 
@@ -70,4 +78,18 @@ pub fn printed(command: &mut Command) -> io::Result<String> {
         return Err(io::Error::other(format!("{}: {errors}", output.status)));
     }
     String::from_utf8(output.stdout).map_err(io::Error::other)
+}
+
+/// The calls of `tests/calls.c`, built once into a folder, to be loaded before the C library's.
+pub fn scripted_calls(folder: &str) -> &'static Path {
+    static BUILT: OnceLock<PathBuf> = OnceLock::new();
+    BUILT.get_or_init(|| {
+        let source = Path::new(env!("CARGO_MANIFEST_DIR")).join("tests/calls.c");
+        let library = Path::new(folder).join("calls.so");
+        let mut compiler = Command::new("cc");
+        compiler.args(["-Wall", "-Wextra", "-Werror", "-shared", "-fPIC", "-o"]);
+        let text = printed(compiler.arg(&library).arg(source)).expect("the calls are built");
+        assert_eq!(text, "");
+        library
+    })
 }

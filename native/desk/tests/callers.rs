@@ -16,29 +16,37 @@ use std::process::Command;
 /// How many drawn pairs are tried.
 const PAIRS: usize = 150;
 
-/// What the C compiler is to look out for.
-const WARNINGS: [&str; 5] = ["-std=c99", "-Wall", "-Wextra", "-Wpedantic", "-Werror"];
+/// A compiler with what it is to look out for.
+type Compiler = (&'static str, &'static [&'static str]);
+
+const C: Compiler = (
+    "cc",
+    &["-std=c99", "-Wall", "-Wextra", "-Wpedantic", "-Werror"],
+);
+
+const RUST: Compiler = ("rustc", &["-D", "warnings"]);
 
 fn repository() -> PathBuf {
     Path::new(env!("CARGO_MANIFEST_DIR")).join("../..")
 }
 
-/// Runs the page's command that begins with this word, with more options, and gives the program
-/// that it makes, here under a name of its own.
-fn build(compiler: &str, options: &[&str]) -> PathBuf {
+/// Runs the page's command that makes a program with a compiler, with more options, and gives
+/// the program, here under a name of its own.
+fn build(name: &str, (compiler, options): Compiler) -> PathBuf {
     let page = fs::read_to_string(repository().join("examples/README.md")).unwrap();
-    let is_ours = |line: &&str| line.trim_start().starts_with(&format!("{compiler} "));
-    let line = page.lines().find(is_ours).expect(compiler);
-    let line = line.strip_suffix(" -o judge").expect("a program's name");
-    let program = Path::new(env!("CARGO_TARGET_TMPDIR")).join(format!("judge-{compiler}"));
+    let (begins, ends) = (format!("{compiler} "), format!(" -o {name}"));
+    let mut lines = page.lines().map(str::trim_start);
+    let line = lines.find(|line| line.starts_with(&begins) && line.ends_with(&ends));
+    let words = line.expect("a command").split_whitespace().skip(1);
+    let words: Vec<&str> = words.take_while(|word| *word != "-o").collect();
+    let program = Path::new(env!("CARGO_TARGET_TMPDIR")).join(format!("{name}-{compiler}"));
     let mut command = Command::new(compiler);
-    command.args(line.split_whitespace().skip(1));
-    command.args(options).arg("-o").arg(&program);
+    command.args(words).args(options).arg("-o").arg(&program);
     assert_eq!(printed(command.current_dir(repository())).unwrap(), "");
     program
 }
 
-/// What both programs must print.
+/// What both programs that judge must print.
 fn wanted(game: &[u8], plan: &[u8]) -> String {
     let answer = judged(game, plan);
     answer.unwrap_or_else(|refusal| format!("refusal {refusal}\n"))
@@ -106,12 +114,12 @@ fn compare_examples(program: &Path) {
 
 #[test]
 fn the_program_in_c_gives_the_verdicts() {
-    compare_all(&build("cc", &WARNINGS));
+    compare_all(&build("judge", C));
 }
 
 #[test]
 fn the_program_in_rust_gives_the_verdicts() {
-    compare_all(&build("rustc", &["-D", "warnings"]));
+    compare_all(&build("judge", RUST));
 }
 
 /// The answer for plan F, worked by hand: L and S gain a half.
@@ -120,4 +128,33 @@ fn plan_f_gains_1_of_2() {
     let folder = repository().join("examples/study-f");
     let [game, plan] = ["game.bin", "plan.bin"].map(|file| fs::read(folder.join(file)).unwrap());
     assert_eq!(wanted(&game, &plan), "player 1 gains 1 of 2 by moves 0 0\n");
+}
+
+/// A program makes the files of the example with plan F, and prints nothing; where it cannot
+/// write, it does not end well.
+fn compare_made(program: &Path) {
+    let folder = Folder::new().unwrap();
+    let run = || printed(Command::new(program).current_dir(folder.path()));
+    assert_eq!(run().unwrap(), "");
+    let stored = repository().join("examples/study-f");
+    for made in [folder.game(), folder.plan()] {
+        let name = made.file_name().unwrap();
+        assert_eq!(
+            fs::read(&made).unwrap(),
+            fs::read(stored.join(name)).unwrap()
+        );
+    }
+    fs::remove_file(folder.plan()).unwrap();
+    fs::create_dir(folder.plan()).unwrap();
+    assert!(run().is_err());
+}
+
+#[test]
+fn the_program_in_c_makes_the_stored_files() {
+    compare_made(&build("make", C));
+}
+
+#[test]
+fn the_program_in_rust_makes_the_stored_files() {
+    compare_made(&build("make", RUST));
 }

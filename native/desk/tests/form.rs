@@ -13,9 +13,9 @@ use generator::named::{
 };
 use generator::plans::{even_plan, random_plan, random_pure_plan};
 use generator::poker::{kuhn, kuhn_equilibrium, leduc};
+use generator::refused_plans::{misfits, wrong_headers, wrong_lengths};
 use generator::rng::Rng;
 use generator::shape::{random_count, Payoffs, Shape};
-use generator::spoil::{misfits, wrong_headers, wrong_lengths};
 use generator::tables::{GameTables, Place, PlanWeights};
 use reference::form::{best_response, table_value_count, value_count, Row};
 use reference::game::{check_game, Game, Kind, Player};

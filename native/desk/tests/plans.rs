@@ -9,9 +9,9 @@ use generator::large::{most_nodes, most_sets};
 use generator::named::{one_leaf, own_chain, plan_m, study_game, wide_decision};
 use generator::plans::{even_plan, random_plan, random_pure_plan};
 use generator::poker::{kuhn, leduc};
+use generator::refused_plans::{misfits, wrong_headers, wrong_lengths};
 use generator::rng::Rng;
 use generator::shape::{random_count, Shape};
-use generator::spoil::{misfits, wrong_headers, wrong_lengths};
 use reference::game::{check_game, Game, Player};
 use reference::plan::check_plan;
 

@@ -2,7 +2,7 @@
 //! independent implementation prints for their bytes.
 
 use desk::drawn::{draw, Met};
-use desk::program::{built, printed, Folder};
+use desk::program::{built, printed, scripted_calls, Folder};
 use generator::large::{most_bytes, most_nodes, most_sets, most_sets_of_one};
 use generator::named::{plan_f, plan_m, study_game};
 use generator::plans::even_plan;
@@ -22,6 +22,10 @@ const MEGABYTE: usize = 1 << 20;
 
 /// How many drawn pairs are tried here; `compare_program` tries any number.
 const PAIRS: usize = 2_000;
+
+/// What is said of arguments.
+const USAGE: &str =
+    "usage: desk, with game.bin and plan.bin in the working folder; it takes no arguments\n";
 
 /// The user that may do nothing, by custom.
 const NOBODY: u32 = 65_534;
@@ -120,6 +124,35 @@ fn a_file_behind_a_link_is_read() {
     symlink("elsewhere", folder.game()).unwrap();
     fs::write(folder.plan(), m()).unwrap();
     assert_eq!(folder.printed().unwrap(), report(&study(), &m()));
+}
+
+/// Runs the program with arguments, where both files can be judged and it ends at once if it opens
+/// one: it says how it is used.
+fn compare_arguments(arguments: &[&str]) {
+    let calls = scripted_calls(env!("CARGO_TARGET_TMPDIR"));
+    let folder = Folder::new().unwrap();
+    folder.put(&study(), &m()).unwrap();
+    let mut command = folder.command();
+    command.env("LD_PRELOAD", calls).env("OPENS", "x");
+    assert!(!command.output().unwrap().status.success());
+    let output = command.args(arguments).output().unwrap();
+    assert!(output.status.success(), "{arguments:?}");
+    assert!(output.stdout.is_empty(), "{arguments:?}");
+    assert_eq!(String::from_utf8(output.stderr).unwrap(), USAGE);
+}
+
+/// An argument that was passed over would read like the name of what is judged.
+#[test]
+fn an_argument_is_not_passed_over() {
+    compare_arguments(&["other/game.bin"]);
+    compare_arguments(&["other/game.bin", "other/plan.bin"]);
+    compare_arguments(&["game.bin", "plan.bin"]);
+    compare_arguments(&[""]);
+    compare_arguments(&["", ""]);
+    compare_arguments(&["--help"]);
+    compare_arguments(&["--"]);
+    compare_arguments(&["-"; 1_000]);
+    compare_arguments(&[&"a".repeat(100_000)]);
 }
 
 /// Whether this process may read any file, as root may.

@@ -4,7 +4,7 @@
 use desk::plain::write::{write_game as plain_game, write_plan as plain_plan, ByFields, ByWord};
 use desk::{check_game, game_fields, plan_fields, write_game, write_plan};
 use desk::{Buffers, Output, PlanBuffers, Refusal};
-use generator::fields::{fitting_fields, spoilt_fields};
+use generator::fields::{fitting_fields, refused_fields};
 use generator::games::random_game;
 use generator::large::{most_nodes, most_sets};
 use generator::named::{plan_m, study_game};
@@ -119,8 +119,8 @@ fn each_thing_that_does_not_fit_gets_17() {
             _ => (rng.below(12), rng.below(16)),
         };
         let tables = fitting_fields(&mut rng, sets, nodes);
-        for spoilt in spoilt_fields(&mut rng, &tables) {
-            assert_eq!(compare_game(&spoilt), 17);
+        for refused in refused_fields(&mut rng, &tables) {
+            assert_eq!(compare_game(&refused), 17);
             met += 1;
         }
     }

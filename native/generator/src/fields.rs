@@ -71,13 +71,13 @@ fn payoff(rng: &mut Rng) -> i64 {
 }
 
 /// 17: the fields with one thing that does not fit, in each way that they have room for.
-pub fn spoilt_fields(rng: &mut Rng, tables: &GameTables) -> Vec<GameTables> {
-    let mut spoilt = with_wide_numbers(rng, tables);
-    spoilt.extend(with_wide_payoffs(rng, tables));
-    spoilt.extend(with_other_kinds(rng, tables));
-    spoilt.extend(with_lacking_numbers(rng, tables));
-    spoilt.extend(with_unlike_lengths(tables));
-    spoilt
+pub fn refused_fields(rng: &mut Rng, tables: &GameTables) -> Vec<GameTables> {
+    let mut refused = with_wide_numbers(rng, tables);
+    refused.extend(with_wide_payoffs(rng, tables));
+    refused.extend(with_other_kinds(rng, tables));
+    refused.extend(with_lacking_numbers(rng, tables));
+    refused.extend(with_unlike_lengths(tables));
+    refused
 }
 
 fn changed(tables: &GameTables, change: impl FnOnce(&mut GameTables)) -> GameTables {
@@ -100,7 +100,7 @@ fn too_large(old: u64, width: u32) -> [u64; 5] {
 }
 
 fn with_wide_numbers(rng: &mut Rng, tables: &GameTables) -> Vec<GameTables> {
-    let mut spoilt: Vec<GameTables> = too_large(tables.root_weight, 12)
+    let mut refused: Vec<GameTables> = too_large(tables.root_weight, 12)
         .map(|weight| changed(tables, |tables| tables.root_weight = weight))
         .into();
     let mut places: Vec<(List, u32, usize)> = Vec::new();
@@ -118,17 +118,17 @@ fn with_wide_numbers(rng: &mut Rng, tables: &GameTables) -> Vec<GameTables> {
         let old = list(&mut tables.fields.clone())[place];
         for number in too_large(old, width) {
             let change = |tables: &mut GameTables| list(&mut tables.fields)[place] = number;
-            spoilt.push(changed(tables, change));
+            refused.push(changed(tables, change));
         }
     }
-    spoilt
+    refused
 }
 
 fn with_wide_payoffs(rng: &mut Rng, tables: &GameTables) -> Vec<GameTables> {
     let Some(leaf) = node_of_kind(rng, &tables.fields, |kind| kind == LEAF) else {
         return Vec::new();
     };
-    let mut spoilt = Vec::new();
+    let mut refused = Vec::new();
     for player in 0..2 {
         let old = tables.fields.payoffs[player][leaf];
         let wide = [
@@ -142,10 +142,10 @@ fn with_wide_payoffs(rng: &mut Rng, tables: &GameTables) -> Vec<GameTables> {
         ];
         for payoff in wide {
             let change = |tables: &mut GameTables| tables.fields.payoffs[player][leaf] = payoff;
-            spoilt.push(changed(tables, change));
+            refused.push(changed(tables, change));
         }
     }
-    spoilt
+    refused
 }
 
 /// Kinds above 2, some with the right two lowest bits, and kind 3 with no number of
@@ -156,10 +156,10 @@ fn with_other_kinds(rng: &mut Rng, tables: &GameTables) -> Vec<GameTables> {
     };
     let old = tables.fields.kinds[node];
     let kinds = [3, old + 4, old | 1 << 32, old | 1 << 62, u64::MAX];
-    let mut spoilt: Vec<GameTables> = kinds
+    let mut refused: Vec<GameTables> = kinds
         .map(|kind| changed(tables, |tables| tables.fields.kinds[node] = kind))
         .into();
-    spoilt.push(changed(tables, |tables| {
+    refused.push(changed(tables, |tables| {
         let fields = &mut tables.fields;
         fields.kinds[node] = 3;
         fields.sets[node] = 0;
@@ -167,18 +167,18 @@ fn with_other_kinds(rng: &mut Rng, tables: &GameTables) -> Vec<GameTables> {
         fields.payoffs[0][node] = 0;
         fields.payoffs[1][node] = 0;
     }));
-    spoilt
+    refused
 }
 
 fn with_lacking_numbers(rng: &mut Rng, tables: &GameTables) -> Vec<GameTables> {
-    let mut spoilt = Vec::new();
+    let mut refused = Vec::new();
     for (list, width, kind) in KIND_LISTS {
         for other in [LEAF, DECISION, CHANCE] {
             let node = node_of_kind(rng, &tables.fields, |here| here == other && here != kind);
             if let Some(node) = node {
                 let number = rng.between(1, (1 << width) - 1);
                 let change = |tables: &mut GameTables| list(&mut tables.fields)[node] = number;
-                spoilt.push(changed(tables, change));
+                refused.push(changed(tables, change));
             }
         }
     }
@@ -187,11 +187,11 @@ fn with_lacking_numbers(rng: &mut Rng, tables: &GameTables) -> Vec<GameTables> {
             if let Some(node) = node_of_kind(rng, &tables.fields, |here| here == kind) {
                 let payoff = if rng.percent(50) { -1 } else { 1 };
                 let change = |tables: &mut GameTables| tables.fields.payoffs[player][node] = payoff;
-                spoilt.push(changed(tables, change));
+                refused.push(changed(tables, change));
             }
         }
     }
-    spoilt
+    refused
 }
 
 /// Each of the ten lists one entry longer, one shorter and empty.
@@ -206,21 +206,21 @@ fn with_unlike_lengths(tables: &GameTables) -> Vec<GameTables> {
         |fields| &mut fields.sets,
         |fields| &mut fields.chance_moves,
     ];
-    let mut spoilt = Vec::new();
+    let mut refused = Vec::new();
     for list in unsigned {
         let lengths = other_lengths(list(&mut tables.fields.clone()).len());
         for length in lengths {
             let change = |tables: &mut GameTables| list(&mut tables.fields).resize(length, 0);
-            spoilt.push(changed(tables, change));
+            refused.push(changed(tables, change));
         }
     }
     for player in 0..2 {
         for length in other_lengths(tables.fields.payoffs[player].len()) {
             let change = |tables: &mut GameTables| tables.fields.payoffs[player].resize(length, 0);
-            spoilt.push(changed(tables, change));
+            refused.push(changed(tables, change));
         }
     }
-    spoilt
+    refused
 }
 
 fn other_lengths(length: usize) -> Vec<usize> {

@@ -11,9 +11,9 @@ pub mod named;
 pub mod near;
 pub mod plans;
 pub mod poker;
+pub mod refused_plans;
 pub mod rng;
 pub mod shape;
-pub mod spoil;
 pub mod tables;
 
 mod grouping;

@@ -8,8 +8,8 @@ use Rattle.algebra.proofs.Fillings.{Filling, filling-none, filling-more, fillin
 use Rattle.model.specs.Game.{gameOf, one, two}
 use Rattle.model.specs.Writing.{payoffField, setField, movesField}
 use Rattle.model.proofs.Budget.{game-limits}
-use Rattle.records.proofs.Reading.{readable}
-use Rattle.records.proofs.Fields.{node-set, node-moves, node-payoff1, node-payoff2}
+use Rattle.records.proofs.Widths.{readable}
+use Rattle.records.proofs.Records.{node-set, node-moves, node-payoff1, node-payoff2}
 use Rattle.columns.proofs.node_columns.Statement.{statement}
 use Rattle.columns.proofs.node_columns.Tie as tie
 

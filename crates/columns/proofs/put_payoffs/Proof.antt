@@ -5,7 +5,7 @@ use lib.IntN.{ℤ}
 use lib.ListN.{set}
 use mir.Syntax.{w16}
 use mir.Val.{SFits}
-use Rattle.records.proofs.Fields.{widens, widened}
+use Rattle.records.proofs.Records.{widens, widened}
 use Rattle.columns.proofs.put_payoffs.Statement.{statement}
 use Rattle.columns.proofs.put_payoffs.Tie as tie
 

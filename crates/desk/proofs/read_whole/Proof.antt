@@ -7,7 +7,7 @@ use lib.Seq.{length-take-le}
 use borrow.Rule.Slice.PartMut.{mid-len}
 use borrow.Author.Needs.{needs}
 use Rattle.desk.specs.Parts.{Within}
-use Rattle.desk.proofs.Counted.{within-more, more-bytes, all-bytes}
+use Rattle.desk.proofs.Counts.{within-more, more-bytes, all-bytes}
 use Rattle.desk.proofs.read_whole.Statement.{statement}
 use Rattle.desk.proofs.read_whole.Tie as tie
 
@@ -46,7 +46,7 @@ enum-known-next c = search needs
 
 -- so do all bytes before another read, and they are more
 more : (c : tie.After-known-told Inv-loop μ-loop) → let l = c .before .before .before .before .before .before .before .before .before .loop in (l .done < c .before .next .given .0 .0) × (c .before .next .given .0 .0 ≤ length (l .buffer))
-more c = more-bytes (c .before .before .before .before .before .before .read-part .result) (omega arith) (within (c .before .before .before .before)) (c .before .before .before .after-read .ensures) (c .before .next .given .1)
+more c = more-bytes 0 (c .before .before .before .before .before .before .read-part .result) (omega arith) (within (c .before .before .before .before)) (c .before .before .before .after-read .ensures) (c .before .next .given .1)
 
 loop-less : tie.Need-loop-less Inv-loop μ-loop
 loop-less c = omega (arith, more c)
@@ -62,7 +62,7 @@ same-length c = search needs
 
 -- and all bytes at the end
 all : (c : tie.After-known-told2 Inv-loop μ-loop) → c .before .next2 .given .0 .0 ≤ length (c .before .before .before .before .before .before .before .before .before .loop .buffer)
-all c = all-bytes (c .before .before .before .before .before .before .read-part .result) (omega arith) (c .before .before .before .after-read .ensures) (c .before .next2 .given .1)
+all c = all-bytes 0 (c .before .before .before .before .before .before .read-part .result) (omega arith) (omega arith) (c .before .before .before .after-read .ensures) (c .before .next2 .given .1)
 
 returns : tie.Need-returns Inv-loop μ-loop
 returns c = (omega (arith, all c), sym (length-take-le _ _ (omega (arith, all c))))

@@ -2,7 +2,7 @@
 use borrow.Author.Needs.{needs}
 use Rattle.model.specs.Writing.{GameFields, fieldLists}
 use Rattle.records.proofs.Headers.{header-framed, header-sets}
-use Rattle.game.proofs.Outcomes.{Opened, opened, sent}
+use Rattle.game.proofs.Refusals.{Opened, opened, refused-with}
 use Rattle.fields.proofs.Buffers.{file-refused, no-room, has-room, all-given}
 use Rattle.fields.proofs.game_fields.Statement.{statement}
 use Rattle.fields.proofs.game_fields.Tie as tie
@@ -19,7 +19,7 @@ refused : tie.Need-returns
 refused c =
     let s = c .before .before .before .before .before .before .before .before .before .before .before .before .before in
     let g = s .args .game .now in
-    file-refused g (lent s) (sent g (c .before .before .before .check .ensures) (c .before .enum-told .given .1) (c .refusal .ensures))
+    file-refused g (lent s) (refused-with g (c .before .before .before .check .ensures) (c .before .enum-told .given .1) (c .refusal .ensures))
 
 short : tie.Need-returns-2
 short c =

@@ -5,7 +5,7 @@ use mir.Syntax.{w64}
 use mir.Val.{toZ, ofZ}
 use mir.Facts.{toZ-ofZ}
 use mir.ValLaws.{toZ-pos}
-use Rattle.judgement.proofs.Judging.{product-fits, difference-fits, gain-is}
+use Rattle.judgement.proofs.Judgement.{product-fits, difference-fits, gain-is}
 use Rattle.judgement.proofs.gain.Statement.{statement}
 use Rattle.judgement.proofs.gain.Tie as tie
 

@@ -5,7 +5,7 @@ use mir.Syntax.{w64}
 use mir.Val.{toZ, ofZ}
 use mir.Facts.{toZ-ofZ}
 use Rattle.judgement.specs.Judgement.{gainOf}
-use Rattle.judgement.proofs.Judging.{first-gains, second-gains, none-gains}
+use Rattle.judgement.proofs.Judgement.{first-gains, second-gains, none-gains}
 use Rattle.judgement.proofs.judge.Statement.{statement}
 use Rattle.judgement.proofs.judge.Tie as tie
 

@@ -1,12 +1,12 @@
 -- An accepted game gives its header's counts; a refusal gives its number.
 use borrow.Author.Needs.{needs}
-use Rattle.game.proofs.Outcomes.{opened, sent}
-use Rattle.lookups.proofs.Reading.{check-refused, check-given}
+use Rattle.game.proofs.Refusals.{opened, refused-with}
+use Rattle.lookups.proofs.Answers.{check-refused, check-given}
 use Rattle.lookups.proofs.check_game.Statement.{statement}
 use Rattle.lookups.proofs.check_game.Tie as tie
 
 refused : tie.Need-returns
-refused c = check-refused _ (sent _ (c .before .before .before .check .ensures) (c .before .enum-told .given .1) (c .refusal .ensures))
+refused c = check-refused _ (refused-with _ (c .before .before .before .check .ensures) (c .before .enum-told .given .1) (c .refusal .ensures))
 
 accepted : tie.Need-returns-2
 accepted c = check-given _ _ (opened _ (c .before .before .before .check .ensures) (c .before .checked .given .1))

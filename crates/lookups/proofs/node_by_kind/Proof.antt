@@ -5,7 +5,7 @@ use mir.Syntax.{w16}
 use mir.Facts.{toZ-ofZ}
 use Rattle.model.specs.Call.{given}
 use Rattle.lookups.specs.Records.{placeRead}
-use Rattle.lookups.proofs.Reading.{first-kind, last-kind}
+use Rattle.lookups.proofs.Answers.{first-kind, last-kind}
 use Rattle.lookups.proofs.node_by_kind.Statement.{statement}
 use Rattle.lookups.proofs.node_by_kind.Tie as tie
 

@@ -7,9 +7,9 @@ use Rattle.model.specs.calls.NodeRecord.{call}
 use Rattle.model.proofs.Budget.{game-limits}
 use Rattle.model.proofs.Checks.{game-rules}
 use Rattle.records.proofs.Headers.{header-nodes, header-records}
-use Rattle.game.proofs.Outcomes.{Opened, opened, sent}
-use Rattle.lookups.proofs.Asking.{in-game, game-refused, number-missing, number-found}
-use Rattle.lookups.proofs.Reading.{node-is-read}
+use Rattle.game.proofs.Refusals.{Opened, opened, refused-with}
+use Rattle.lookups.proofs.Asked.{in-game, game-refused, number-missing, number-found}
+use Rattle.lookups.proofs.Answers.{node-is-read}
 use Rattle.lookups.proofs.node_record.Statement.{statement}
 use Rattle.lookups.proofs.node_record.Tie as tie
 
@@ -18,7 +18,7 @@ game-opened c = opened _ (c .before .before .before .check .ensures) (c .before 
 
 refused : tie.Need-returns
 unfolding call
-refused c = game-refused _ _ _ _ (sent _ (c .before .before .before .check .ensures) (c .before .enum-told .given .1) (c .refusal .ensures))
+refused c = game-refused _ _ _ _ (refused-with _ (c .before .before .before .check .ensures) (c .before .enum-told .given .1) (c .refusal .ensures))
 
 missing : tie.Need-returns-2
 unfolding call

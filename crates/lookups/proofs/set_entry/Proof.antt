@@ -5,10 +5,10 @@ use native.Mathlib.Omega.{arith}
 use Rattle.model.specs.Call.{given}
 use Rattle.model.specs.calls.SetEntry.{call}
 use Rattle.records.proofs.Headers.{header-sets}
-use Rattle.records.proofs.Reading.{few-sets}
-use Rattle.game.proofs.Outcomes.{Opened, opened, sent}
-use Rattle.lookups.proofs.Asking.{in-game, game-refused, number-missing, number-found}
-use Rattle.lookups.proofs.Reading.{set-is-read}
+use Rattle.records.proofs.Widths.{few-sets}
+use Rattle.game.proofs.Refusals.{Opened, opened, refused-with}
+use Rattle.lookups.proofs.Asked.{in-game, game-refused, number-missing, number-found}
+use Rattle.lookups.proofs.Answers.{set-is-read}
 use Rattle.lookups.proofs.set_entry.Statement.{statement}
 use Rattle.lookups.proofs.set_entry.Tie as tie
 
@@ -17,7 +17,7 @@ game-opened c = opened _ (c .before .before .before .check .ensures) (c .before 
 
 refused : tie.Need-returns
 unfolding call
-refused c = game-refused _ _ _ _ (sent _ (c .before .before .before .check .ensures) (c .before .enum-told .given .1) (c .refusal .ensures))
+refused c = game-refused _ _ _ _ (refused-with _ (c .before .before .before .check .ensures) (c .before .enum-told .given .1) (c .refusal .ensures))
 
 missing : tie.Need-returns-2
 unfolding call

@@ -16,7 +16,7 @@ use Rattle.model.specs.Demand1.{Clause}
 use Rattle.model.proofs.Rows.{Decided, Any, decided-of, decided-append, decided-known}
 use Rattle.model.proofs.Checks.{game-decided}
 use Rattle.model.proofs.Call.{clause, same-good-run}
-use Rattle.model.proofs.Fields.{fields-fit-iff}
+use Rattle.model.proofs.Rules.{fields-fit-iff}
 use Rattle.model.proofs.GameTrips.{set-count, node-count, game-fields-trip}
 use Rattle.model.proofs.calls.WriteGame.{fit-decided}
 

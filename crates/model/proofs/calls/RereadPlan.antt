@@ -18,7 +18,7 @@ use Rattle.model.proofs.Rows.{Decided, Any, decided-of, decided-append,
 use Rattle.model.proofs.Checks.{pair-decided}
 use Rattle.model.proofs.Call.{clause, same-good-run}
 use Rattle.model.proofs.Bits.{length-fields}
-use Rattle.model.proofs.Fields.{plan-fields-fit-iff}
+use Rattle.model.proofs.Rules.{plan-fields-fit-iff}
 use Rattle.model.proofs.PlanTrips.{plan-fields-trip}
 use Rattle.model.proofs.calls.WritePlan.{fit-decided}
 

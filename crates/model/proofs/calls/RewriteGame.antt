@@ -12,7 +12,7 @@ use Rattle.model.specs.Demand1.{Clause}
 use Rattle.model.specs.Demand2.{IsBytes}
 use Rattle.model.proofs.Checks.{game-decided}
 use Rattle.model.proofs.Call.{clause, same-good-run}
-use Rattle.model.proofs.Fields.{fields-fit-iff}
+use Rattle.model.proofs.Rules.{fields-fit-iff}
 use Rattle.model.proofs.GameTrips.{game-file-trip}
 use Rattle.model.proofs.calls.WriteGame.{fit-decided}
 

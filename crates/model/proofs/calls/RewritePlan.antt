@@ -14,7 +14,7 @@ use Rattle.model.specs.Demand1.{Clause}
 use Rattle.model.specs.Demand2.{IsBytes}
 use Rattle.model.proofs.Checks.{pair-decided}
 use Rattle.model.proofs.Call.{clause, same-good-run}
-use Rattle.model.proofs.Fields.{plan-fields-fit-iff}
+use Rattle.model.proofs.Rules.{plan-fields-fit-iff}
 use Rattle.model.proofs.PlanTrips.{plan-file-trip}
 use Rattle.model.proofs.calls.WritePlan.{fit-decided}
 

@@ -17,7 +17,7 @@ use Rattle.model.specs.Verdict.{shownMoves}
 use Rattle.model.specs.Rules.{GoodFiles}
 use Rattle.model.specs.Call.{Outcome, afterCall}
 use Rattle.model.specs.Exported.{exported}
-use Rattle.model.specs.calls.Verdict.{Stated, accepted, deviates, verdictOf, stated, call, verdict, Numbers, numbersOf, verdictNumbers}
+use Rattle.model.specs.calls.Verdict.{Stated, accepted, deviates, verdictOf, stated, call, verdictCall, Numbers, numbersOf, verdictNumbers}
 use Rattle.model.specs.Demand1.{Clause}
 use Rattle.model.specs.Demand3.{Deviates, strategyIn, IsAccepted, statedBase, StrategiesExist, Shows, Means, Judged, Demand3Met, statedBy, Demand3MetIn}
 use Rattle.model.proofs.Checks.{game-file-iff, plan-file-iff, pair-decided}
@@ -51,7 +51,7 @@ module _ (g : Game) (q : PlanPair) where
         named = refl;
         counted = sym (length-map l (λ (x : Move). x .0)) ∙ ap length (D .everySet);
         inBuffer = omega (arith, length-append moves rest, length-map l (λ (x : Move). x .1));
-        deviates = subst (Deviates g q p z (valueBase g q)) same D;
+        deviation = subst (Deviates g q p z (valueBase g q)) same D;
       }
 
   means : (v : Pair.Verdict) → ((p : Player) (z : ℤ) (l : List Move) → v ≡ Pair.deviation p z l → Deviates g q p z (valueBase g q) l) → (rest : List ℕ) → Means g q (stated (valueBase g q) v) (map (λ (x : Move). x .1) (shownMoves v) ++ rest)
@@ -82,7 +82,7 @@ module _ (g : Game) (q : PlanPair) where
   }
 
 -- the verdict is as demanded
-pub demand3 : (game plan moves : List ℕ) → Demand3Met game plan moves (verdict game plan moves)
+pub demand3 : (game plan moves : List ℕ) → Demand3Met game plan moves (verdictCall game plan moves)
 unfolding call afterCall
 demand3 game plan moves good long =
     let g = gameOf game in
@@ -95,7 +95,7 @@ demand3 game plan moves good long =
     (stated (valueBase g q) (verdictOf f), ap (λ (o : Outcome (ℕ ∷ []) Stated). o .answer) e, subst (λ (o : Outcome (ℕ ∷ []) Stated). Judged g q (stated (valueBase g q) (verdictOf f)) (o .buffers .0)) (sym e) (met g q J S (drop (length shown) moves)))
 
 -- the numbers say what the model's verdict says
-said-back : (base : ℕ) (v : Pair.Verdict) → let n = numbersOf (stated base v) in statedBy (n .player) (n .gain) (n .base) (n .count) ≡ stated base v
+said-back : (base : ℕ) (v : Pair.Verdict) → let n = numbersOf (stated base v) in statedBy (n .number) (n .gain) (n .base) (n .count) ≡ stated base v
 said-back base Pair.equilibrium = refl
 said-back base (Pair.deviation one z l) = refl
 said-back base (Pair.deviation two z l) = refl
@@ -110,5 +110,5 @@ demand3-numbers game plan before moves good long =
     let e = demand1 .taken f (moves, tt) good (long, tt) in
     let J = files-mean game plan (game-file-iff game .0 (good .0)) (plan-file-iff game plan .0 (good .1)) in
     let S = strategies-exist g (good .0 .rules) in
-    subst (λ (o : Outcome (ℕ ∷ []) Stated). let x = exported numbersOf before o in let n = x .numbers in (x .refusal ≡ 0) × Judged g q (statedBy (n .player) (n .gain) (n .base) (n .count)) (x .buffers .0)) (sym e)
+    subst (λ (o : Outcome (ℕ ∷ []) Stated). let x = exported numbersOf before o in let n = x .numbers in (x .refusal ≡ 0) × Judged g q (statedBy (n .number) (n .gain) (n .base) (n .count)) (x .buffers .0)) (sym e)
     (refl, subst (λ (j : Stated). Judged g q j (shown ++ drop (length shown) moves)) (sym (said-back (valueBase g q) (verdictOf f))) (met g q J S (drop (length shown) moves)))

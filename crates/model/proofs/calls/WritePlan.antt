@@ -3,7 +3,7 @@ use Rattle.model.specs.Rules.{PlanFieldsFit}
 use Rattle.model.specs.calls.WritePlan.{rows, call}
 use Rattle.model.specs.Demand1.{Clause}
 use Rattle.model.proofs.Decisions.{no-fails}
-use Rattle.model.proofs.Fields.{plan-fields-fit-iff}
+use Rattle.model.proofs.Rules.{plan-fields-fit-iff}
 use Rattle.model.proofs.Rows.{Decided, Any, decided-one}
 use Rattle.model.proofs.Call.{clause}
 

@@ -1,4 +1,4 @@
--- The desk program's text for two files that fit: `report`, `desk_report`.
+-- The desk program's text for two files that fit: `reportCall`, `desk_report`.
 use Prim.Native.Nat.{ℕ}
 use mathlib.Core.List.{List, [], _∷_}
 use lib.ListN.{length}
@@ -12,5 +12,5 @@ unfoldable pub call : Call Files (ℕ ∷ []) ℕ
 call = record { rows = pairRows; result = λ f. length (reportOf (f .game) (f .plan)); written = λ f. (reportOf (f .game) (f .plan), tt) }
 
 -- the call as a function
-abbrev pub report : (game plan out : List ℕ) → Outcome (ℕ ∷ []) ℕ
-report game plan out = run call (files game plan) (out, tt)
+abbrev pub reportCall : (game plan out : List ℕ) → Outcome (ℕ ∷ []) ℕ
+reportCall game plan out = run call (files game plan) (out, tt)

@@ -1,4 +1,4 @@
--- Values and best values: `values`, `desk_values`.
+-- Values and best values: `valuesCall`, `desk_values`.
 use Prim.Native.Nat.{ℕ}
 use mathlib.Core.List.{List, []}
 use lib.IntN.{ℤ}
@@ -39,5 +39,5 @@ unfoldable pub call : Call Files [] PairValues
 call = record { rows = pairRows; result = valuesOf; written = λ f. tt }
 
 -- the call as a function
-abbrev pub values : (game plan : List ℕ) → Outcome [] PairValues
-values game plan = run call (files game plan) tt
+abbrev pub valuesCall : (game plan : List ℕ) → Outcome [] PairValues
+valuesCall game plan = run call (files game plan) tt

@@ -1,4 +1,4 @@
--- The verdict on a plan pair: `verdict`, `desk_verdict`.
+-- The verdict on a plan pair: `verdictCall`, `desk_verdict`.
 use Prim.Native.Nat.{ℕ}
 use mathlib.Core.List.{List, [], _∷_, map}
 use lib.IntN.{ℤ, pos}
@@ -17,7 +17,7 @@ use Rattle.model.specs.Exported.{Exported, exported}
 -- It gives that the pair is accepted; or a player, 1 or 2, his gain over the base, and how many sets his strategy covers.
 pub data Stated : Type 0 where
   accepted : (base : ℕ) → Stated
-  deviates : (player : ℕ) → (gain : ℤ) → (base sets : ℕ) → Stated
+  deviates : (number : ℕ) → (gain : ℤ) → (base sets : ℕ) → Stated
 
 -- the verdict on the pair that two files hold
 abbrev pub verdictOf : Files → Pair.Verdict
@@ -41,23 +41,23 @@ unfoldable pub call : Call Files (ℕ ∷ []) Stated
 call = record { rows = pairRows; result = λ f. stated (baseOf f) (verdictOf f); written = λ f. (movesOf f, tt) }
 
 -- the call as a function
-abbrev pub verdict : (game plan moves : List ℕ) → Outcome (ℕ ∷ []) Stated
-verdict game plan moves = run call (files game plan) (moves, tt)
+abbrev pub verdictCall : (game plan moves : List ℕ) → Outcome (ℕ ∷ []) Stated
+verdictCall game plan moves = run call (files game plan) (moves, tt)
 
 -- The verdict in numbers: `desk_verdict` has a lent number for each.
 pub record Numbers : Type 0 where
-  pub player : ℕ  -- 1 or 2; 0 where the pair is accepted
+  pub number : ℕ  -- 1 or 2; 0 where the pair is accepted
   pub gain : ℤ  -- over the base; 0 where the pair is accepted
   pub base : ℕ
   pub count : ℕ  -- how many sets the strategy covers
 
-abbrev pub numbers : (player : ℕ) → (gain : ℤ) → (base count : ℕ) → Numbers
-numbers player gain base count = record { player = player; gain = gain; base = base; count = count }
+abbrev pub numbers : (number : ℕ) → (gain : ℤ) → (base count : ℕ) → Numbers
+numbers number gain base count = record { number = number; gain = gain; base = base; count = count }
 
 abbrev pub numbersOf : Stated → Numbers
 numbersOf (accepted base) = numbers 0 (pos 0) base 0
-numbersOf (deviates player gain base sets) = numbers player gain base sets
+numbersOf (deviates number gain base sets) = numbers number gain base sets
 
 -- the exported call as a function
 abbrev pub verdictNumbers : (game plan : List ℕ) → (before : Numbers) → (moves : List ℕ) → Exported (ℕ ∷ []) Numbers
-verdictNumbers game plan before moves = exported numbersOf before (verdict game plan moves)
+verdictNumbers game plan before moves = exported numbersOf before (verdictCall game plan moves)

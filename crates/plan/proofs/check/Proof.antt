@@ -11,16 +11,16 @@ use Rattle.model.specs.PlanChecks.{Files, planHasLength}
 use Rattle.model.specs.Checks.{planRows}
 use Rattle.checks.specs.Checked.{checkedOf}
 use Rattle.checks.proofs.Chains.{Left, begin, passes, stops-at, ends, fine-test}
-use Rattle.game.proofs.Outcomes.{refuses}
+use Rattle.game.proofs.Refusals.{refuses}
 use lib.ListN.{drop}
 use Rattle.plan.specs.declared.PlanAnswer.the-variants.{Refused}
-use Rattle.records.proofs.Reading.{few-sets}
+use Rattle.records.proofs.Widths.{few-sets}
 use Rattle.records.proofs.Headers.{header-sets}
-use Rattle.plan.specs.Answers.{planAnswer}
+use Rattle.plan.specs.Refusals.{planAnswer}
 use Rattle.plan.specs.Weights.{weightByNumber}
-use Rattle.plan.proofs.Forms.{length-is, header-first, header-second, header-denominators}
+use Rattle.plan.proofs.FormatChecks.{length-is, header-d1, header-d2, header-denominators}
 use Rattle.plan.proofs.ByNumber.{by-number-from, filled-weights, pair-fits}
-use Rattle.plan.proofs.Outcomes.{some-sequence, room, Counted, counted, counts-are, fits-is, after-early, after-late}
+use Rattle.plan.proofs.Refusals.{some-sequence, room, Counted, counted, counts-are, fits-is, after-early, after-late}
 use Rattle.plan.proofs.check.Statement.{statement}
 use Rattle.plan.proofs.check.Tie as tie
 
@@ -60,7 +60,7 @@ unfolding weightsBefore
 weights1 c =
     let a = c .before .before .before .before .before .before .before .before .before .before .before .before .before .before .before .before .before .before .before .before .before .args in
     let g = gameOf (a .game .now) in
-    by-number-from g (a .plan .now) one _ (c .decode .ensures) (header-first g _ _ (c .before .before .before .before .before .before .read .ensures)) refl (moves (c .before .before .before .before .before .before .before .before .before .before) .first)
+    by-number-from g (a .plan .now) one _ (c .decode .ensures) (header-d1 g _ _ (c .before .before .before .before .before .before .read .ensures)) refl (moves (c .before .before .before .before .before .before .before .before .before .before) .first)
 
 -- and player 2's
 weights2 : (c : tie.After-decode2) → let a = c .before .before .before .before .before .before .before .before .before .before .before .before .before .before .before .before .before .before .before .before .before .before .before .before .before .args in c .decode2 .last .1 .1 .1 .1 .0 ≡ over (weightByNumber (gameOf (a .game .now)) (a .plan .now) two) (sequenceCount (gameOf (a .game .now)) two) (a .y .now)
@@ -68,7 +68,7 @@ weights2 c =
     let a = c .before .before .before .before .before .before .before .before .before .before .before .before .before .before .before .before .before .before .before .before .before .before .before .before .before .args in
     let g = gameOf (a .game .now) in
     let m = moves (c .before .before .before .before .before .before .before .before .before .before .before .before .before .before) in
-    by-number-from g (a .plan .now) two _ (c .decode2 .ensures) (header-second g _ _ (c .before .before .before .before .before .before .before .before .before .before .read .ensures)) (m .before) (m .second)
+    by-number-from g (a .plan .now) two _ (c .decode2 .ensures) (header-d2 g _ _ (c .before .before .before .before .before .before .before .before .before .before .read .ensures)) (m .before) (m .second)
 
 pair-fits-requires : tie.Need-pair-fits-requires
 pair-fits-requires c κs =

@@ -1,13 +1,13 @@
 -- A pair that fits gives D1 and D2; a refusal gives its number.
 use borrow.Author.Needs.{needs}
-use Rattle.plan.proofs.Pairs.{pair-opened, pair-sent}
-use Rattle.plans.proofs.Laws.{plan-refused, plan-fits}
+use Rattle.plan.proofs.Pairs.{pair-opened, pair-refused-with}
+use Rattle.plans.proofs.Answers.{plan-refused, plan-fits}
 use Rattle.plans.proofs.check_plan.Statement.{statement}
 use Rattle.plans.proofs.check_plan.Tie as tie
 
 refused : tie.Need-returns
 refused c =
-    let s = pair-sent _ _ (c .before .before .before .before .before .read .ensures .0) (c .before .enum-told .given .1) (c .refusal .ensures) in
+    let s = pair-refused-with _ _ (c .before .before .before .before .before .read .ensures .0) (c .before .enum-told .given .1) (c .refusal .ensures) in
     plan-refused _ _ (s .0) (s .1)
 
 fits : tie.Need-returns-2

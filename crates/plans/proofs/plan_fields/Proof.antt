@@ -4,9 +4,9 @@ use borrow.Author.Needs.{needs}
 use lib.Dec.{leb, leb→le}
 use lib.ListN.{length}
 use Rattle.model.specs.Game.{one, two}
-use Rattle.plan.proofs.Pairs.{PairOpened, pair-opened, pair-sent, pair-holds, pair-counted}
+use Rattle.plan.proofs.Pairs.{PairOpened, pair-opened, pair-refused-with, pair-holds, pair-counted}
 use Rattle.checks.proofs.Chains.{fine-test}
-use Rattle.plans.proofs.Laws.{weights-refused, weights-counted, weights-short, weights-given}
+use Rattle.plans.proofs.Answers.{weights-refused, weights-counted, weights-short, weights-given}
 use Rattle.plans.proofs.plan_fields.Statement.{statement}
 use Rattle.plans.proofs.plan_fields.Tie as tie
 
@@ -15,7 +15,7 @@ opened c = pair-opened _ _ (c .before .before .before .before .before .read .ens
 
 refused : tie.Need-returns
 refused c =
-    let s = pair-sent _ _ (c .before .before .before .before .before .read .ensures .0) (c .before .enum-told .given .1) (c .refusal .ensures) in
+    let s = pair-refused-with _ _ (c .before .before .before .before .before .read .ensures .0) (c .before .enum-told .given .1) (c .refusal .ensures) in
     weights-refused _ _ _ (s .0) (s .1)
 
 count-requires : tie.Need-weight-count-requires

@@ -1,28 +1,35 @@
--- Each field comes from its column.
+-- The pair is that of the row's first leaf; each sum is over all its leaves.
+use native.Mathlib.Omega.{arith}
+use mathlib.Core.Path.{_∙_}
 use mir.Syntax.{w64}
 use mir.Facts.{toZ-ofZ}
-use borrow.Author.Needs.{needs, sfits-of}
-use Rattle.model.specs.Writing.{entry, entryZ}
+use Rattle.algebra.specs.Arrays.{item}
 use Rattle.rows.proofs.row_at.Statement.{statement}
 use Rattle.rows.proofs.row_at.Tie as tie
 
-all-read : tie.Need-returns
-all-read c =
-    let a = c .before .before .before .before .args in
-    let first = toZ-ofZ {w = w64} {z = entryZ (a .sum1 .now) (a .k)} (sfits-of (c .before .t14 .given)) in
-    let second = toZ-ofZ {w = w64} {z = entryZ (a .sum2 .now) (a .k)} (sfits-of (c .t17 .given)) in
-    λ i. record { sequence1 = entry (a .sequence1 .now) (a .k); sequence2 = entry (a .sequence2 .now) (a .k); sum1 = first i; sum2 = second i }
+made : tie.Need-returns
+made c =
+    let a = c .before .before .before .before .before .before .before .before .before .before .before .before .args in
+    let leaf = item (a .sorted .now) (item (a .bounds .now) (a .k)) in
+    let one = toZ-ofZ {w = w64} {z = c .before .before .before .leaf-sum .result} (record { sfits = c .before .before .before .leaf-sum .ok }) ∙ c .before .before .before .leaf-sum .ensures in
+    let two = toZ-ofZ {w = w64} {z = c .before .before .leaf-sum2 .result} (record { sfits = c .before .before .leaf-sum2 .ok }) ∙ c .before .before .leaf-sum2 .ensures in
+    λ i. record { sequence1 = item (a .first .now) leaf; sequence2 = item (a .second .now) leaf; sum1 = one i; sum2 = two i }
 
 pub row-at-spec : {M : Type 1} → statement M
 row-at-spec =
     tie.close
     (tie.spec
-    (λ c. search needs)
-    (λ c. search needs)
-    (λ c. search needs)
-    (λ c. search needs)
-    (λ c. search needs)
-    (λ c. search needs)
-    (λ c. search needs)
-    (λ c. search needs)
-    all-read)
+    (λ c. omega (arith, c .before .before .before .before .before .pre .bounds-long))
+    (λ c. omega (arith, c .before .before .before .before .before .before .pre .bounds-long))
+    (λ c. omega (arith, c .before .before .before .before .before .before .pre .bounds-long))
+    (λ c. omega (arith, c .before .before .before .before .before .before .pre .bounds-long))
+    (λ c. omega (arith, c .before .before .before .before .before .before .before .pre .bounds-long))
+    (λ c. omega (arith, c .before .before .before .before .before .before .before .pre .begins))
+    (λ c. omega (arith, c .before .before .before .before .before .before .before .before .pre .begins))
+    (λ c κs. c .before .before .before .before .before .before .before .before .pre .sum1)
+    (λ c κs. c .before .before .before .before .before .before .before .before .before .pre .sum2)
+    (λ c. omega (arith, c .before .before .before .before .before .before .before .before .before .before .pre .in-first))
+    (λ c. omega (arith, c .before .before .before .before .before .before .before .before .before .before .before .pre .in-first))
+    (λ c. omega (arith, c .before .before .before .before .before .before .before .before .before .before .before .pre .in-second))
+    (λ c. omega (arith, c .before .before .before .before .before .before .before .before .before .before .before .before .pre .in-second))
+    made)

@@ -4,11 +4,12 @@ use mathlib.Core.Path.{_≡_}
 use native.Mathlib.Omega.{arith}
 use borrow.Author.Needs.{needs}
 use lib.ListN.{length}
+use Rattle.model.specs.Limits.{countLimit}
 use Rattle.time_responses.proofs.repeat.Statement.{statement}
 use Rattle.time_responses.proofs.repeat.Tie as tie
 
 abbrev Inv-loop : tie.InvT-loop
-Inv-loop game header sequences leaves own opponent chance payoffs y head next lead start count node times moves₀ k₀ moves k = length moves ≡ 4095
+Inv-loop game header sequences leaves own opponent chance payoffs y head next lead start count node times moves₀ k₀ moves k = length moves ≡ countLimit
 
 abbrev μ-loop : tie.MeasureT-loop
 μ-loop game header sequences leaves own opponent chance payoffs y head next lead start count node times moves₀ k₀ moves k = times - k

@@ -5,23 +5,24 @@ use mathlib.Core.List.{List}
 use native.Mathlib.Omega.{arith}
 use borrow.Author.Needs.{needs}
 use lib.ListN.{length, replicate}
+use Rattle.model.specs.Limits.{countLimit}
 use Rattle.model.specs.Game.{gameOf, one, two}
 use Rattle.model.specs.Checks.{pairRefusal}
 use Rattle.model.proofs.Budget.{game-limits}
 use Rattle.model.proofs.Checks.{game-rules}
 use Rattle.plan.specs.declared.PairHeader.{PairHeader}
 use Rattle.plan.specs.Weights.{Weights}
-use Rattle.plan.specs.Answers.{weightsAfter}
+use Rattle.plan.specs.Refusals.{weightsAfter}
 use Rattle.plan.proofs.Pairs.{PairOpened, pair-opened, pair-over, pair-holds}
-use Rattle.plan.proofs.Stored.{stored-fits, stored-zeros}
+use Rattle.plan.proofs.StoredWeights.{stored-fits, stored-zeros}
 use Rattle.form.proofs.PairBudget.{weights2}
 use Rattle.time_responses.proofs.run.Statement.{statement}
 use Rattle.time_responses.proofs.run.Tie as tie
 
 -- player 2's weights
-weights-read : (game plan : List ℕ) {h : PairHeader} → PairOpened game plan h → {x y : List ℕ} → x ≡ weightsAfter (pairRefusal game plan) game plan one (replicate 4095 0) → y ≡ weightsAfter (pairRefusal game plan) game plan two (replicate 4095 0) → 4095 ≤ length x → 4095 ≤ length y → Weights (gameOf game) two y
+weights-read : (game plan : List ℕ) {h : PairHeader} → PairOpened game plan h → {x y : List ℕ} → x ≡ weightsAfter (pairRefusal game plan) game plan one (replicate countLimit 0) → y ≡ weightsAfter (pairRefusal game plan) game plan two (replicate countLimit 0) → countLimit ≤ length x → countLimit ≤ length y → Weights (gameOf game) two y
 weights-read game plan o {x} {y} a b long1 long2 =
-    let zeros = replicate {A = ℕ} 4095 0 in
+    let zeros = replicate {A = ℕ} countLimit 0 in
     weights2 (gameOf game) (game-rules game (o .game-none)) (game-limits game) {x = x} (record {
       long1 = long1;
       long2 = long2;

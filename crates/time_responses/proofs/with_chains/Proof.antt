@@ -1,7 +1,7 @@
 -- The player's chains make what is gathered of all sets what is prepared for him.
 use native.Mathlib.Omega.{arith}
 use borrow.Author.Needs.{needs}
-use Rattle.form.proofs.Preparing.{prepared}
+use Rattle.form.proofs.Prepared.{prepared}
 use Rattle.time_responses.proofs.with_chains.Statement.{statement}
 use Rattle.time_responses.proofs.with_chains.Tie as tie
 

@@ -4,7 +4,7 @@ use borrow.Author.Needs.{needs}
 use mathlib.Core.Path.{_∙_}
 use mir.Syntax.{w64}
 use mir.Facts.{toZ-ofZ}
-use Rattle.form.proofs.Preparing.{prepared}
+use Rattle.form.proofs.Prepared.{prepared}
 use Rattle.form.proofs.best.player_best.Statement.{statement}
 use Rattle.form.proofs.best.player_best.Tie as tie
 

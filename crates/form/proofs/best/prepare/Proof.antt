@@ -2,8 +2,8 @@
 use native.Mathlib.Omega.{arith}
 use Rattle.algebra.proofs.Fillings.{filled}
 use Rattle.records.proofs.Headers.{header-sets}
-use Rattle.records.proofs.Reading.{few-sets}
-use Rattle.form.proofs.Responding.{few-sequences, chained}
+use Rattle.records.proofs.Widths.{few-sets}
+use Rattle.form.proofs.Responses.{few-sequences, chained}
 use Rattle.form.proofs.best.prepare.Statement.{statement}
 use Rattle.form.proofs.best.prepare.Tie as tie
 

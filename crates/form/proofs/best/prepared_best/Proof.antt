@@ -7,8 +7,8 @@ use mir.Facts.{toZ-ofZ}
 use Rattle.model.specs.Game.{gameOf, playerOf}
 use Rattle.model.proofs.Budget.{game-limits}
 use Rattle.records.proofs.Headers.{header-nodes, header-sets}
-use Rattle.records.proofs.Reading.{few-sets}
-use Rattle.form.proofs.Responding.{few-sequences, response-ready, best-count, moves-are}
+use Rattle.records.proofs.Widths.{few-sets}
+use Rattle.form.proofs.Responses.{few-sequences, response-ready, best-count, moves-are}
 use Rattle.form.proofs.best.prepared_best.Statement.{statement}
 use Rattle.form.proofs.best.prepared_best.Tie as tie
 

@@ -8,7 +8,7 @@ use Rattle.model.specs.Game.{gameOf, one, two}
 use Rattle.model.proofs.Budget.{game-limits}
 use Rattle.gather.proofs.LeafColumns.{player-leaves}
 use Rattle.form.proofs.PairBudget.{weights1, weights2}
-use Rattle.form.proofs.Evaluating.{counts-first, counts-second, pair-value-ready, pair-value, values-are}
+use Rattle.form.proofs.Evaluation.{counts-first, counts-second, pair-value-ready, pair-value, values-are}
 use Rattle.form.proofs.evaluate.of_gathered.Statement.{statement}
 use Rattle.form.proofs.evaluate.of_gathered.Tie as tie
 

@@ -3,8 +3,8 @@ use mathlib.Core.Path.{_≡_, sym, _∙_}
 use borrow.Author.Needs.{needs}
 use native.Mathlib.Omega.{arith}
 use Rattle.model.specs.Game.{gameOf}
-use Rattle.records.proofs.Fields.{node-payoff1, node-payoff2}
-use Rattle.gather.proofs.Gathering.{next-one, next-none, column-one, column-none, leaf-payoff}
+use Rattle.records.proofs.Records.{node-payoff1, node-payoff2}
+use Rattle.gather.proofs.Gathered.{next-one, next-none, column-one, column-none, leaf-payoff}
 use Rattle.gather.proofs.leaves.add_node.Statement.{statement}
 use Rattle.gather.proofs.leaves.add_node.Tie as tie
 

@@ -4,12 +4,13 @@ use mathlib.Core.Path.{_≡_}
 use borrow.Author.Needs.{needs}
 use native.Mathlib.Omega.{arith}
 use lib.ListN.{length}
+use Rattle.model.specs.Limits.{countLimit}
 use Rattle.model.specs.Game.{gameOf, one, two}
 use Rattle.model.specs.Table.{ownNumber}
 use Rattle.model.proofs.Budget.{game-limits}
 use Rattle.records.proofs.Headers.{header-nodes, header-records}
 use Rattle.gather.specs.Leaves.{leavesBelow}
-use Rattle.gather.proofs.Gathering.{leaves-few, Gathering, gathered-none, gathered-long, gathered-room, gathered-more, count-none, count-more, count-all}
+use Rattle.gather.proofs.Gathered.{leaves-few, Gathering, gathered-none, gathered-long, gathered-room, gathered-more, count-none, count-more, count-all}
 use Rattle.gather.proofs.LeafColumns.{column-all}
 use Rattle.gather.proofs.leaves.gather.Statement.{statement}
 use Rattle.gather.proofs.leaves.gather.Tie as tie
@@ -36,7 +37,7 @@ turn c = omega (arith, header-nodes _ _ (c .before .before .before .before .befo
 ended : (c : tie.After-loop Inv-loop μ-loop) → c .before .loop .n ≡ gameOf (c .before .before .before .before .before .before .before .before .args .game .now) .nodes
 ended c = omega (arith, header-nodes _ _ (c .before .before .before .before .before .before .before .before .pre .0), c .before .loop .inv .0)
 
-few : (c : tie.At-loop Inv-loop μ-loop) → c .loop .n ≤ 4095
+few : (c : tie.At-loop Inv-loop μ-loop) → c .loop .n ≤ countLimit
 few c = omega (arith, c .loop .inv .0, game-limits (c .before .before .before .before .before .before .before .args .game .now) .nodes)
 
 add-node-requires : tie.Need-add-node-requires Inv-loop μ-loop
@@ -44,7 +45,7 @@ add-node-requires c κs =
     let q = c .before .before .before .before .before .before .before .before .before .before .before .before .before .before .before .pre in
     let i = c .before .before .before .before .before .before .before .before .loop .inv in
     let l = turn (c .before .before .before .before .before .before .before) in
-    let b : c .before .before .before .before .before .before .before .before .loop .n < 4095 = omega (arith, l, game-limits (c .before .before .before .before .before .before .before .before .before .before .before .before .before .before .before .args .game .now) .nodes) in (
+    let b : c .before .before .before .before .before .before .before .before .loop .n < countLimit = omega (arith, l, game-limits (c .before .before .before .before .before .before .before .before .before .before .before .before .before .before .before .args .game .now) .nodes) in (
       header-records _ _ (q .0),
       omega (arith, b),
       omega (arith, b, i .1, leaves-few (gameOf (c .before .before .before .before .before .before .before .before .before .before .before .before .before .before .before .args .game .now)) (c .before .before .before .before .before .before .before .before .loop .n)),

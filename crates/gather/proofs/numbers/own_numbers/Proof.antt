@@ -2,7 +2,7 @@
 use native.Mathlib.Omega.{arith}
 use Rattle.algebra.proofs.Fillings.{filled}
 use Rattle.records.proofs.Headers.{header-nodes, header-sets, header-framed}
-use Rattle.records.proofs.Reading.{few-sets}
+use Rattle.records.proofs.Widths.{few-sets}
 use Rattle.records.proofs.Rooted.{rules-rooted}
 use Rattle.gather.proofs.numbers.own_numbers.Statement.{statement}
 use Rattle.gather.proofs.numbers.own_numbers.Tie as tie

@@ -7,8 +7,8 @@ use lib.ListN.{length}
 use Rattle.algebra.proofs.Fillings.{Filling, filling-none, filling-more, filling-long, filling-all}
 use Rattle.model.specs.Game.{gameOf}
 use Rattle.model.specs.Writing.{playerField}
-use Rattle.records.proofs.Reading.{few-sets}
-use Rattle.records.proofs.Fields.{set-player}
+use Rattle.records.proofs.Widths.{few-sets}
+use Rattle.records.proofs.Records.{set-player}
 use Rattle.gather.proofs.sets.entries.Statement.{statement}
 use Rattle.gather.proofs.sets.entries.Tie as tie
 

@@ -3,7 +3,7 @@ use native.Mathlib.Omega.{arith}
 use borrow.Author.Needs.{needs}
 use Rattle.algebra.proofs.Fillings.{filled}
 use Rattle.records.proofs.Headers.{header-sets, header-framed}
-use Rattle.records.proofs.Reading.{few-sets}
+use Rattle.records.proofs.Widths.{few-sets}
 use Rattle.records.proofs.Rooted.{rules-rooted}
 use Rattle.gather.proofs.SetColumns.{copied-holds, node-below, leads-held}
 use Rattle.gather.proofs.sets.gather.Statement.{statement}

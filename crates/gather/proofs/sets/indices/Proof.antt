@@ -2,13 +2,13 @@
 use Prim.Native.Nat.{_-_}
 use native.Mathlib.Omega.{arith}
 use borrow.Author.Needs.{needs}
+use Rattle.algebra.specs.Arrays.{item}
 use Rattle.algebra.proofs.Fillings.{Filling, filling-none, filling-more, filling-long, filling-all}
-use Rattle.model.specs.Writing.{entry}
 use Rattle.gather.proofs.sets.indices.Statement.{statement}
 use Rattle.gather.proofs.sets.indices.Tie as tie
 
 abbrev Inv-loop : tie.InvT-loop
-Inv-loop numbers count out₀ i₀ out i = Filling (entry numbers) count out₀ i out
+Inv-loop numbers count out₀ i₀ out i = Filling (item numbers) count out₀ i out
 
 abbrev μ-loop : tie.MeasureT-loop
 μ-loop numbers count out₀ i₀ out i = count - i

@@ -3,11 +3,11 @@ use Prim.Native.Nat.{_-_, _≤_}
 use mathlib.Core.Path.{_≡_}
 use native.Mathlib.Omega.{arith}
 use lib.ListN.{length}
-use Rattle.algebra.proofs.Gathering.{gatheredBelow, gathered-few, gathered-part, count-none, count-more, Gathering, gathering-none, gathering-long, gathering-more, gathering-all}
+use Rattle.algebra.specs.Arrays.{item}
+use Rattle.algebra.proofs.Filters.{gatheredBelow, gathered-few, gathered-part, count-none, count-more, Gathering, gathering-none, gathering-long, gathering-more, gathering-all}
 use Rattle.model.specs.Game.{gameOf, playerOf, owns}
 use Rattle.model.specs.Earnings.{setsOf}
-use Rattle.model.specs.Writing.{entry}
-use Rattle.records.proofs.Reading.{few-sets}
+use Rattle.records.proofs.Widths.{few-sets}
 use Rattle.judgement.specs.Strategy.{ownSetAt}
 use Rattle.judgement.proofs.strategy.put_strategy.Statement.{statement}
 use Rattle.judgement.proofs.strategy.put_strategy.Tie as tie
@@ -16,7 +16,7 @@ abbrev Inv-loop : tie.InvT-loop
 Inv-loop game sets player moves out₀ at₀ h₀ out at h =
     (h ≤ sets)
     × (at ≡ length (gatheredBelow (owns (gameOf game) (playerOf player)) h))
-    × Gathering (owns (gameOf game) (playerOf player)) (entry moves) h out₀ out
+    × Gathering (owns (gameOf game) (playerOf player)) (item moves) h out₀ out
 
 abbrev μ-loop : tie.MeasureT-loop
 μ-loop game sets player moves out₀ at₀ h₀ out at h = sets - h
@@ -50,7 +50,7 @@ again c =
     let own = owns (gameOf (s .args .game .now)) (playerOf (s .args .player)) in
     let i = c .before .before .before .before .before .loop .inv in
     let put = c .before .before .put-move .ensures in
-    (omega arith, count-more own _ _ _ (i .1) (put .0), gathering-more own (entry (s .args .moves .now)) _ _ (s .args .out .now) _ _ (i .2) (i .1) (put .1))
+    (omega arith, count-more own _ _ _ (i .1) (put .0), gathering-more own (item (s .args .moves .now)) _ _ (s .args .out .now) _ _ (i .2) (i .1) (put .1))
 
 same-length : tie.Need-same-length Inv-loop μ-loop
 unfolding setsOf
@@ -58,14 +58,14 @@ same-length c =
     let s = c .before .before .before .before .before in
     let own = owns (gameOf (s .args .game .now)) (playerOf (s .args .player)) in
     let e : c .before .loop .h ≡ gameOf (s .args .game .now) .sets = omega (arith, s .pre .0) in
-    gathering-long own (entry (s .args .moves .now)) _ _ _ (c .before .loop .inv .2) (rw e (s .pre .3))
+    gathering-long own (item (s .args .moves .now)) _ _ _ (c .before .loop .inv .2) (rw e (s .pre .3))
 
 returns : tie.Need-returns Inv-loop μ-loop
 unfolding setsOf
 returns c =
     let s = c .before .before .before .before .before in
     let own = owns (gameOf (s .args .game .now)) (playerOf (s .args .player)) in
-    gathering-all own (entry (s .args .moves .now)) _ _ (s .args .out .now) _ (c .before .loop .inv .2) (omega (arith, s .pre .0))
+    gathering-all own (item (s .args .moves .now)) _ _ (s .args .out .now) _ (c .before .loop .inv .2) (omega (arith, s .pre .0))
 
 pub put-strategy-spec : {M : Type 1} → statement M
 put-strategy-spec =

@@ -3,10 +3,10 @@ use Prim.Native.Nat.{_-_, _≤_}
 use mathlib.Core.Path.{_≡_}
 use native.Mathlib.Omega.{arith}
 use lib.ListN.{length}
-use Rattle.algebra.proofs.Gathering.{gatheredBelow, gathered-few, count-none, count-more, count-all}
+use Rattle.algebra.proofs.Filters.{gatheredBelow, gathered-few, count-none, count-more, count-all}
 use Rattle.model.specs.Game.{gameOf, playerOf, owns}
 use Rattle.model.specs.Earnings.{setsOf}
-use Rattle.records.proofs.Reading.{few-sets}
+use Rattle.records.proofs.Widths.{few-sets}
 use Rattle.judgement.specs.Strategy.{ownSetAt}
 use Rattle.judgement.proofs.strategy.set_count.Statement.{statement}
 use Rattle.judgement.proofs.strategy.set_count.Tie as tie

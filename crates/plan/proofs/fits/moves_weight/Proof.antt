@@ -3,7 +3,7 @@ use Prim.Native.Nat.{_+_, _-_}
 use mathlib.Core.Path.{refl}
 use native.Mathlib.Omega.{arith}
 use lib.ListN.{getD}
-use Rattle.plan.proofs.Adding.{Added, added-none, added-more, added-all, added-bound}
+use Rattle.plan.proofs.Sums.{Added, added-none, added-more, added-all, added-bound}
 use Rattle.plan.proofs.fits.moves_weight.Statement.{statement}
 use Rattle.plan.proofs.fits.moves_weight.Tie as tie
 

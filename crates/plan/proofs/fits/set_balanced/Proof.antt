@@ -1,4 +1,4 @@
--- The tables give where the set's weights stand (`Stand`), which bounds the places and decides the test.
+-- The tables give where the set's weights stand (`WeightPlaces`), which bounds the places and decides the test.
 use mathlib.Core.Path.{sym, ap, _∙_}
 use native.Mathlib.Omega.{arith}
 use borrow.Author.Needs.{needs}
@@ -6,10 +6,10 @@ use lib.Dec.{T, eqb}
 use lib.ListN.{getD}
 use Rattle.model.specs.Game.{gameOf, playerOf, owns}
 use Rattle.model.proofs.Tree.{owner}
-use Rattle.records.proofs.Reading.{few-sets}
+use Rattle.records.proofs.Widths.{few-sets}
 use Rattle.sequences.proofs.Leading.{first-found, leading-is}
 use Rattle.sequences.proofs.OwnSets.{own-set}
-use Rattle.plan.proofs.Balance.{Stand, stand, other-set}
+use Rattle.plan.proofs.Balance.{WeightPlaces, weight-places, other-set}
 use Rattle.plan.proofs.fits.set_balanced.Statement.{statement}
 use Rattle.plan.proofs.fits.set_balanced.Tie as tie
 
@@ -24,13 +24,13 @@ leading-requires c κs =
     (omega (arith, s .pre .2, t .first-nodes .long), omega (arith, first-found _ (s .pre .0) (t .first-nodes) (s .args .h) (s .pre .2), t .own-numbers .long))
 
 -- where its weights stand
-stands : (c : tie.After-index2) → let s = c .before .before .before .before .before .before .before .before .before .before .before .before in Stand (gameOf (s .args .game .now)) (playerOf (s .args .player)) (s .args .x .now) (s .args .h) (c .before .before .index .result) (c .before .before .before .before .before .before .read .result .moves) (c .index2 .result)
+stands : (c : tie.After-index2) → let s = c .before .before .before .before .before .before .before .before .before .before .before .before in WeightPlaces (gameOf (s .args .game .now)) (playerOf (s .args .player)) (s .args .x .now) (s .args .h) (c .before .before .index .result) (c .before .before .before .before .before .before .read .result .moves) (c .index2 .result)
 stands c =
     let s = c .before .before .before .before .before .before .before .before .before .before .before .before in
     let t = s .pre .3 in
     let o = owned (c .before .before .before .before) in
     let l = s .pre .2 in
-    stand _ (s .pre .0) _ _ _ l o _ _ _
+    weight-places _ (s .pre .0) _ _ _ l o _ _ _
     (c .before .before .index .ensures ∙ t .first-sequences .at (s .args .h) l)
     (c .before .before .before .before .before .before .read .ensures .moves)
     (c .index2 .ensures ∙ c .before .leading .ensures ∙ leading-is _ (s .pre .0) (t .first-nodes) (s .args .h) l (t .own-numbers) (sym (owner _ _ _ o)))

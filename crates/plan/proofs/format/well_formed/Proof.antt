@@ -1,19 +1,21 @@
 -- The header's tests and the filling's are the model's; the filling is less than a byte, so its field can be read.
 use borrow.Author.Needs.{needs}
 use mathlib.Core.Path.{sym, _∙_}
-use Rattle.plan.proofs.Forms.{formed-fine, formed-filled, formed-wrong}
+use Rattle.plan.proofs.FormatChecks.{formed-fine, formed-filled, formed-wrong}
 use Rattle.plan.proofs.format.well_formed.Statement.{statement}
 use Rattle.plan.proofs.format.well_formed.Tie as tie
 
 fine : tie.Need-returns
 fine c g e =
-    let s = c .before .before .before .before .before in
-    formed-fine g _ _ e _ (s .pre .0) (sym (c .before .before .before .header-right .ensures) ∙ c .before .before .if1 .taken) (sym (c .before .field .ensures .0) ∙ c .if2 .taken)
+    let s = c .before .before .before .before .before .before in
+    let at = c .before .before .weight-at .ensures in
+    formed-fine g _ _ e _ (s .pre .0) (sym (c .before .before .before .before .header-right .ensures) ∙ c .before .before .before .if1 .taken) (rw at at (sym (c .before .read-field .ensures .0) ∙ c .if2 .taken))
 
 filled : tie.Need-returns-2
 filled c g e =
-    let s = c .before .before .before .before .before in
-    formed-filled g _ _ e _ (s .pre .0) (λ z. c .if2 .left (c .before .field .ensures .0 ∙ z))
+    let s = c .before .before .before .before .before .before in
+    let at = c .before .before .weight-at .ensures in
+    formed-filled g _ _ e _ (s .pre .0) (λ z. c .if2 .left (c .before .read-field .ensures .0 ∙ rw at z))
 
 wrong : tie.Need-returns-3
 wrong c g e =
@@ -25,8 +27,7 @@ well-formed-spec =
     tie.close
     (tie.spec
     (λ c κs. search needs)
-    (λ c. search needs)
-    (λ c. search needs)
+    (λ c κs. search needs)
     (λ c. search needs)
     (λ c. search needs)
     (λ c κs. search needs)

@@ -3,13 +3,13 @@ use Prim.Native.Nat.{ℕ, suc, _-_}
 use mathlib.Core.Path.{_≡_, ap}
 use native.Mathlib.Omega.{arith}
 use lib.ListN.{length}
+use Rattle.algebra.specs.Arrays.{item}
 use Rattle.algebra.proofs.Arrays.{Placing, placing-none, placing-more, placing-long, placing-all}
-use Rattle.model.specs.Writing.{entry}
 use Rattle.plan.proofs.pair.put_moves.Statement.{statement}
 use Rattle.plan.proofs.pair.put_moves.Tie as tie
 
 abbrev Inv-loop : tie.InvT-loop
-Inv-loop x moves out₀ at i₀ out i = Placing at (λ k. entry x (suc k)) moves out₀ i out
+Inv-loop x moves out₀ at i₀ out i = Placing at (λ k. item x (suc k)) moves out₀ i out
 
 abbrev μ-loop : tie.MeasureT-loop
 μ-loop x moves out₀ at i₀ out i = moves - i
@@ -32,6 +32,6 @@ put-moves-spec =
     (λ c. omega (arith, long (c .before .before)))
     (λ c. omega arith)
     (λ c. omega arith)
-    (λ c. placing-more _ _ _ _ _ _ _ (c .before .before .loop .inv) (omega arith) (omega arith) (ap (λ (k : ℕ). entry (c .before .before .before .args .x .now) k) (omega arith)))
+    (λ c. placing-more _ _ _ _ _ _ _ (c .before .before .loop .inv) (omega arith) (omega arith) (ap (λ (k : ℕ). item (c .before .before .before .args .x .now) k) (omega arith)))
     (λ c. long (c .before))
     (λ c. placing-all _ _ _ _ _ _ (c .before .loop .inv) (omega arith)))

@@ -3,20 +3,20 @@ use mathlib.Core.Path.{refl, sym, _∙_}
 use borrow.Author.Needs.{needs}
 use Rattle.model.specs.Game.{one, two}
 use Rattle.model.proofs.Checks.{game-rules}
-use Rattle.game.proofs.Outcomes.{opened, sent, refuses}
+use Rattle.game.proofs.Refusals.{opened, refused-with, refuses}
 use Rattle.plan.specs.declared.PairAnswer.the-variants.{Refused}
-use Rattle.plan.specs.Answers.{pairAnswer}
-use Rattle.plan.proofs.Outcomes.{after-early}
-use Rattle.plan.proofs.Pairs.{game-refused, game-early, plan-decides, plan-sent, pair-fits-as}
+use Rattle.plan.specs.Refusals.{pairAnswer}
+use Rattle.plan.proofs.Refusals.{after-early}
+use Rattle.plan.proofs.Pairs.{game-refused, game-early, plan-decides, plan-refused-with, pair-fits-as}
 use Rattle.plan.proofs.pair.read.Statement.{statement}
 use Rattle.plan.proofs.pair.read.Tie as tie
 
-game-sent : tie.Need-returns
-game-sent c =
+game-refused-with : tie.Need-returns
+game-refused-with c =
     let a = c .before .before .before .before .before .before .before .before .args in
     let g = a .game .now in
     let p = a .plan .now in
-    let s = sent g (c .before .before .before .check .ensures) (c .before .enum-told .given .1) (c .refusal .ensures) in
+    let s = refused-with g (c .before .before .before .check .ensures) (c .before .enum-told .given .1) (c .refusal .ensures) in
     let e = game-refused g p s in
     (refuses (λ k. pairAnswer k g p) Refused (λ k. refl) e (s .some), after-early g p one _ _ e (game-early g p s), after-early g p two _ _ e (game-early g p s))
 
@@ -35,7 +35,7 @@ plan-refused c =
     let o = opened g (c .before .before .before .before .before .before .before .before .before .before .before .before .before .check .ensures) (c .before .before .before .before .before .before .before .before .before .before .before .checked .given .1) in
     let d = plan-decides g p (o .none) in
     let e = c .before .before .before .before .before .before .before .check2 .ensures in
-    let s = plan-sent g p (e .0) (c .before .enum-told2 .given .1) (c .plan-refusal .ensures) in
+    let s = plan-refused-with g p (e .0) (c .before .enum-told2 .given .1) (c .plan-refusal .ensures) in
     (refuses (λ k. pairAnswer k g p) Refused (λ k. refl) (d ∙ sym (s .0)) (s .1), rw d (e .1), rw d (e .2))
 
 fits : tie.Need-returns-3
@@ -56,7 +56,7 @@ read-spec =
     (λ c. search needs)
     (λ c. search needs)
     (λ c κs. search needs)
-    game-sent
+    game-refused-with
     check-requires
     (λ c. search needs)
     (λ c. search needs)

@@ -1,8 +1,8 @@
 -- The pair's refusal; or the report on what was evaluated and judged.
 use mathlib.Core.Path.{_∙_}
 use borrow.Author.Needs.{needs}
-use Rattle.verdict.proofs.Evaluated.{EvaluationOpened, evaluation-opened, evaluation-sent}
-use Rattle.verdict.proofs.Judged.{judge-asks}
+use Rattle.verdict.proofs.EvaluatedPairs.{EvaluationOpened, evaluation-opened, evaluation-refused-with}
+use Rattle.verdict.proofs.VerdictAnswered.{judge-asks}
 use Rattle.report.proofs.Calls.{report-refused, report-given, file-most, pair-ready, report-agrees}
 use Rattle.report.proofs.reports.report.Statement.{statement}
 use Rattle.report.proofs.reports.report.Tie as tie
@@ -10,7 +10,7 @@ use Rattle.report.proofs.reports.report.Tie as tie
 refused : tie.Need-returns
 refused c =
     let a = c .before .before .before .before .before .before .before .before .before .before .before .args in
-    let s = evaluation-sent (a .game .now) (a .plan .now) (c .before .before .before .before .before .evaluate .ensures .0) (c .before .enum-told .given .1) (c .refusal .ensures) in
+    let s = evaluation-refused-with (a .game .now) (a .plan .now) (c .before .before .before .before .before .evaluate .ensures .0) (c .before .enum-told .given .1) (c .refusal .ensures) in
     report-refused (a .game .now) (a .plan .now) (a .out .now) (s .0) (s .1)
 
 -- what is known of the pair, once it is taken apart

@@ -5,8 +5,8 @@ use mathlib.Core.List.{List}
 use native.Mathlib.Omega.{arith}
 use Rattle.algebra.specs.Bounded.{joinTo}
 use Rattle.model.specs.Game.{gameOf, playerOf}
-use Rattle.records.proofs.Reading.{few-sets}
-use Rattle.text.specs.Text.{Room, Put}
+use Rattle.records.proofs.Widths.{few-sets}
+use Rattle.text.specs.Text.{TextFits, Put}
 use Rattle.report.specs.Whole.{setLine, strategyLines}
 use Rattle.text.proofs.Puts.{put-long}
 use Rattle.report.proofs.Strategies.{joined-none, joined-room, joined-more}
@@ -24,7 +24,7 @@ abbrev line-of : tie.Start Inv-loop μ-loop → ℕ → List ℕ
 line-of s = setLine (gameOf (s .args .game .now)) (playerOf (s .args .player)) (s .args .moves .now)
 
 -- room for all lines
-room : (s : tie.Start Inv-loop μ-loop) → Room (s .args .at) (joinTo (gameOf (s .args .game .now) .sets) (line-of s)) (s .args .out .now)
+room : (s : tie.Start Inv-loop μ-loop) → TextFits (s .args .at) (joinTo (gameOf (s .args .game .now) .sets) (line-of s)) (s .args .out .now)
 unfolding strategyLines
 room s = s .pre .3
 

@@ -3,7 +3,7 @@ use Prim.Native.Nat.{ℕ}
 use mathlib.Core.List.{List, _++_}
 use borrow.Author.Needs.{needs}
 use Rattle.model.specs.Game.{gameOf}
-use Rattle.text.specs.Text.{Room}
+use Rattle.text.specs.Text.{TextFits}
 use Rattle.report.specs.Whole.{BasesFit, valuesText, verdictText, reportText}
 use Rattle.text.proofs.Puts.{room-first, room-then, put-then}
 use Rattle.report.proofs.Wholes.{bases-fit}
@@ -18,7 +18,7 @@ verdict-part c =
     let a = c .before .before .before .before .before .before .args in
     verdictText (gameOf (a .game .now)) (c .bases .result .values) (a .verdict) (a .moves1 .now) (a .moves2 .now)
 
-room : (c : tie.After-bases) → Room 0 (values-part c ++ verdict-part c) (c .before .before .before .before .before .before .args .out .now)
+room : (c : tie.After-bases) → TextFits 0 (values-part c ++ verdict-part c) (c .before .before .before .before .before .before .args .out .now)
 unfolding reportText
 room c = rw (c .bases .ensures) (c .before .before .before .before .before .before .pre .1)
 

@@ -12,14 +12,14 @@ use mir.Val.{toZ}
 use mir.Facts.{toZ-ofZ}
 use Rattle.responses.specs.PlayerTables.{tables}
 use Rattle.responses.proofs.TableLaws.{head-first, next-first}
-use Rattle.responses.proofs.Storing.{Walked, Tried, sums-fit, own-led, move-from, walk-start, walk-step, walk-fits, walk-end, try-start, try-step, try-end}
+use Rattle.responses.proofs.Stored.{Walked, Tried, sums-fit, own-led, move-from, walk-start, walk-step, walk-fits, walk-end, try-start, try-step, try-end}
 use Rattle.responses.proofs.worths.sequence_worth.Reads as sequence-worth
 use Rattle.responses.proofs.worths.sequence_worth.Kinds as sequence-worth-kinds
 use Rattle.responses.proofs.worths.+sequence_worth+set_worth.Lts-sequence_worth as sequence-worth-lts
 use Rattle.responses.proofs.worths.set_worth.Reads as set-worth
 use Rattle.responses.proofs.worths.set_worth.Kinds as set-worth-kinds
 use Rattle.responses.proofs.worths.+sequence_worth+set_worth.Lts-set_worth as set-worth-lts
-use Rattle.responses.proofs.worths.larger.Reads as larger-reads
+use Rattle.responses.proofs.worths.maximum.Reads as maximum-reads
 use Rattle.responses.proofs.worths.+sequence_worth+set_worth.{statement}
 use Rattle.responses.proofs.worths.+sequence_worth+set_worth.Tie.{close}
 
@@ -158,7 +158,7 @@ pub +sequence-worth+set-worth-spec : {M : Type 1} → statement M
     let p = c .before .loop in
     λ steps l. walk-end (c .loop-test .left) (p .inv .0) (s .pre .1 .2) (omega (arith, p .inv .2)) (p .inv .3 steps l)))
     λ t. set-worth-lts.spec
-    (sequence-worth-below t, sequence-worth.Post, larger-reads.Asked, larger-reads.Learnt)
+    (sequence-worth-below t, sequence-worth.Post, maximum-reads.Asked, maximum-reads.Learnt)
     (set-worth-at t)
     set-worth.Post
     set-worth-Inv-loop
@@ -227,7 +227,7 @@ pub +sequence-worth+set-worth-spec : {M : Type 1} → statement M
       omega arith,
       call .kept .1 .1 .1 .1 .1 .1 .1 .0 ∙ p .inv .2,
       λ steps l.
-          rw (toZ-ofZ {w = w64} {z = c .larger .result} (record { sfits = c .larger .ok }), c .larger .ensures, toZ-ofZ {w = w64} {z = call .result} (record { sfits = call .ok }))
+          rw (toZ-ofZ {w = w64} {z = c .maximum .result} (record { sfits = c .maximum .ok }), c .maximum .ensures, toZ-ofZ {w = w64} {z = call .result} (record { sfits = call .ok }))
           (try-step (p .inv .0) (p .inv .3 steps l) (call .ensures steps l)),
     ))
     -- same-length

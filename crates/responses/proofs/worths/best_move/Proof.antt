@@ -6,14 +6,14 @@ use native.Mathlib.Omega.{arith}
 use borrow.Author.Needs.{sfits-of}
 use mir.Syntax.{w64}
 use mir.Facts.{toZ-ofZ}
-use Rattle.model.specs.Writing.{entryZ}
+use Rattle.algebra.specs.Arrays.{itemZ}
 use Rattle.responses.specs.BestMoves.{bestStored}
 use Rattle.responses.proofs.Greatest.{Foremost, foremost-one, foremost-new, foremost-old, foremost-is}
 use Rattle.responses.proofs.worths.best_move.Statement.{statement}
 use Rattle.responses.proofs.worths.best_move.Tie as tie
 
 abbrev Inv-loop : tie.InvT-loop
-Inv-loop worth start count best₀ m₀ best m = (1 ≤ m) × (m ≤ count) × Foremost (λ j. entryZ worth (start + j)) m best
+Inv-loop worth start count best₀ m₀ best m = (1 ≤ m) × (m ≤ count) × Foremost (λ j. itemZ worth (start + j)) m best
 
 abbrev μ-loop : tie.MeasureT-loop
 μ-loop worth start count best₀ m₀ best m = count - m
@@ -22,8 +22,8 @@ loop-again : tie.Need-loop-again Inv-loop μ-loop
 loop-again c =
     let p = c .before .before .before .before .loop in
     let a = c .before .before .before .before .before .args in
-    let x = toZ-ofZ {w = w64} {z = entryZ (a .worth .now) (a .start + p .best)} (sfits-of (c .before .before .if12 .given)) in
-    let y = toZ-ofZ {w = w64} {z = entryZ (a .worth .now) (a .start + p .m)} (sfits-of (c .before .if13 .given)) in (
+    let x = toZ-ofZ {w = w64} {z = itemZ (a .worth .now) (a .start + p .best)} (sfits-of (c .before .before .if12 .given)) in
+    let y = toZ-ofZ {w = w64} {z = itemZ (a .worth .now) (a .start + p .m)} (sfits-of (c .before .if13 .given)) in (
       omega arith,
       omega arith,
       ⊎-elim

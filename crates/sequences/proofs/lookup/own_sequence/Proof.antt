@@ -7,7 +7,7 @@ use Rattle.algebra.proofs.Fillings.{filled}
 use Rattle.model.specs.Game.{gameOf}
 use Rattle.model.specs.Sequences.{firstNode}
 use Rattle.sequences.specs.Sets.{firstSequence}
-use Rattle.records.proofs.Reading.{few-sets}
+use Rattle.records.proofs.Widths.{few-sets}
 use Rattle.records.proofs.Rooted.{rules-rooted}
 use Rattle.sequences.proofs.Leading.{read-player, first-found, leading-is}
 use Rattle.sequences.proofs.lookup.own_sequence.Statement.{statement}

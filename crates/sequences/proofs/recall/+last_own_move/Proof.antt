@@ -10,8 +10,8 @@ use Rattle.sequences.proofs.Own.{no-decision, own-decision, other-decis
 use Rattle.sequences.proofs.recall.last_own_move.Reads as last-own-move
 use Rattle.sequences.proofs.recall.last_own_move.Kinds as last-own-move-kinds
 use Rattle.sequences.proofs.recall.+last_own_move.Lts-last_own_move as last-own-move-lts
-use Rattle.records.proofs.NodeRecord.read.Reads as NodeRecord-read-reads
-use Rattle.records.proofs.SetEntry.read.Reads as SetEntry-read-reads
+use Rattle.records.proofs.game.NodeRecord.read.Reads as NodeRecord-read-reads
+use Rattle.records.proofs.game.SetEntry.read.Reads as SetEntry-read-reads
 use Rattle.sequences.proofs.recall.+last_own_move.{statement}
 use Rattle.sequences.proofs.recall.+last_own_move.Tie.{close}
 

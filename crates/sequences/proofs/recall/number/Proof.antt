@@ -4,12 +4,12 @@ use native.Mathlib.Omega.{arith}
 use borrow.Author.Needs.{needs}
 use Rattle.sequences.specs.declared.LastMove.{LastMove}
 use Rattle.sequences.specs.declared.LastMove.the-variants.{Made}
-use Rattle.sequences.specs.Recall.{Numbered, numberOf}
+use Rattle.sequences.specs.Recall.{Numberable, numberOf}
 use Rattle.sequences.proofs.recall.number.Statement.{statement}
 use Rattle.sequences.proofs.recall.number.Tie as tie
 
-made : (c : tie.After-last) → Numbered (Made (c .last .given .0 .0) (c .last .given .0 .1 .0)) (c .before .before .args .starts .now)
-made c = subst (λ (a : LastMove). Numbered a (c .before .before .args .starts .now)) (c .last .given .1) (c .before .before .pre)
+made : (c : tie.After-last) → Numberable (Made (c .last .given .0 .0) (c .last .given .0 .1 .0)) (c .before .before .args .starts .now)
+made c = subst (λ (a : LastMove). Numberable a (c .before .before .args .starts .now)) (c .last .given .1) (c .before .before .pre)
 
 pub number-spec : {M : Type 1} → statement M
 number-spec =

@@ -8,7 +8,7 @@ use Rattle.algebra.specs.Arrays.{Holds, over}
 use Rattle.algebra.proofs.Fillings.{over-none, over-more}
 use Rattle.model.specs.Game.{gameOf, one, two}
 use Rattle.sequences.specs.Sets.{firstSequence}
-use Rattle.records.proofs.Reading.{few-sets}
+use Rattle.records.proofs.Widths.{few-sets}
 use Rattle.sequences.proofs.FirstSequences.{nextNumber, start-small, next-none, next-count, next-at, next-add}
 use Rattle.sequences.proofs.sets.first_sequences.Statement.{statement}
 use Rattle.sequences.proofs.sets.first_sequences.Tie as tie

@@ -8,8 +8,7 @@ use lib.IntN.{_+ℤ_}
 use mir.Syntax.{w64}
 use mir.Val.{SFits, toZ, ofZ}
 use mir.Facts.{toZ-ofZ}
-use Rattle.algebra.specs.Arrays.{over}
-use Rattle.model.specs.Writing.{entry, entryZ}
+use Rattle.algebra.specs.Arrays.{item, itemZ, over}
 use Rattle.slices.specs.Sums.{opponentTerm, sumAt}
 use Rattle.slices.proofs.SumLoops.{summing-none, summing-more, summing-long, summing-fits, summing-all}
 use Rattle.slices.proofs.sums.sums.Statement.{statement}
@@ -26,7 +25,7 @@ out-long : (c : tie.At-loop Inv-loop μ-loop) → length (c .loop .out) ≡ leng
 out-long c = summing-long _ _ _ _ _ _ _ (c .before .before .before .before .before .before .before .before .pre .0) _ _ (c .before .before .before .before .before .before .before .before .pre .1) (c .before .before .clear .ensures) _ _ (c .loop .inv)
 
 -- the place of the own sequence is one of the array's
-in-range : (c : tie.In-loop Inv-loop μ-loop) → entry (c .before .before .before .before .before .before .before .before .before .args .own .now) (c .before .loop .k) < length (c .before .loop .out)
+in-range : (c : tie.In-loop Inv-loop μ-loop) → item (c .before .before .before .before .before .before .before .before .before .args .own .now) (c .before .loop .k) < length (c .before .loop .out)
 in-range c = omega (arith, out-long (c .before), c .before .before .before .before .before .before .before .before .before .pre .0 .own-below (c .before .loop .k) (omega arith), c .before .before .before .before .before .before .before .before .before .pre .1)
 
 opponent-term-requires : tie.Need-opponent-term-requires Inv-loop μ-loop
@@ -37,13 +36,13 @@ opponent-term-requires c κs =
     (omega (arith, r .opponent-long), omega (arith, r .chance-long), omega (arith, r .payoffs-long), r .opponent-below k l, r .chance-small k l, r .weight-small k l)
 
 -- what is read and what is added are the numbers themselves
-read : (c : tie.After-opponent-term Inv-loop μ-loop) → let a = c .before .before .before .before .before .before .before .before .before .before .before .before .args in toZ w64 (ofZ w64 (entryZ (c .before .before .before .before .loop .out) (entry (a .own .now) (c .before .before .before .before .loop .k)))) +ℤ toZ w64 (ofZ w64 (c .opponent-term .result)) ≡ entryZ (c .before .before .before .before .loop .out) (entry (a .own .now) (c .before .before .before .before .loop .k)) +ℤ opponentTerm (a .opponent .now) (a .chance .now) (a .payoffs .now) (a .y .now) (c .before .before .before .before .loop .k)
+read : (c : tie.After-opponent-term Inv-loop μ-loop) → let a = c .before .before .before .before .before .before .before .before .before .before .before .before .args in toZ w64 (ofZ w64 (itemZ (c .before .before .before .before .loop .out) (item (a .own .now) (c .before .before .before .before .loop .k)))) +ℤ toZ w64 (ofZ w64 (c .opponent-term .result)) ≡ itemZ (c .before .before .before .before .loop .out) (item (a .own .now) (c .before .before .before .before .loop .k)) +ℤ opponentTerm (a .opponent .now) (a .chance .now) (a .payoffs .now) (a .y .now) (c .before .before .before .before .loop .k)
 read c =
     let o = c .before .before .before .before .loop .out in
-    let s = entry (c .before .before .before .before .before .before .before .before .before .before .before .before .args .own .now) (c .before .before .before .before .loop .k) in
-    rw (toZ-ofZ {w = w64} {z = entryZ o s} (sfits-of (c .before .added-arg .given)), toZ-ofZ {w = w64} {z = c .opponent-term .result} (record { sfits = c .opponent-term .ok }), c .opponent-term .ensures)
+    let s = item (c .before .before .before .before .before .before .before .before .before .before .before .before .args .own .now) (c .before .before .before .before .loop .k) in
+    rw (toZ-ofZ {w = w64} {z = itemZ o s} (sfits-of (c .before .added-arg .given)), toZ-ofZ {w = w64} {z = c .opponent-term .result} (record { sfits = c .opponent-term .ok }), c .opponent-term .ensures)
 
-fits : (c : tie.After-opponent-term Inv-loop μ-loop) → SFits w64 (toZ w64 (ofZ w64 (entryZ (c .before .before .before .before .loop .out) (entry (c .before .before .before .before .before .before .before .before .before .before .before .before .args .own .now) (c .before .before .before .before .loop .k)))) +ℤ toZ w64 (ofZ w64 (c .opponent-term .result)))
+fits : (c : tie.After-opponent-term Inv-loop μ-loop) → SFits w64 (toZ w64 (ofZ w64 (itemZ (c .before .before .before .before .loop .out) (item (c .before .before .before .before .before .before .before .before .before .before .before .before .args .own .now) (c .before .before .before .before .loop .k)))) +ℤ toZ w64 (ofZ w64 (c .opponent-term .result)))
 fits c = rw (read c) (summing-fits _ _ _ _ _ _ _ (c .before .before .before .before .before .before .before .before .before .before .before .before .pre .0) _ _ (c .before .before .before .before .before .before .before .before .before .before .before .before .pre .1) (c .before .before .before .before .before .before .clear .ensures) _ _ (c .before .before .before .before .loop .inv) (omega arith))
 
 again : tie.Need-loop-again Inv-loop μ-loop

@@ -4,7 +4,7 @@ use native.Mathlib.Omega.{arith}
 use mir.Syntax.{w64}
 use mir.Facts.{toZ-ofZ}
 use mir.ValLaws.{toZ-pos}
-use Rattle.records.proofs.Fields.{widens, widened}
+use Rattle.records.proofs.Records.{widens, widened}
 use Rattle.slices.proofs.Products.{weighed-fits}
 use Rattle.slices.proofs.sums.weighed.Statement.{statement}
 use Rattle.slices.proofs.sums.weighed.Tie as tie

@@ -8,7 +8,7 @@ use borrow.Author.Needs.{needs}
 use lib.IntN.{natAbs}
 use mir.Facts.{toZ-ofZ}
 use Rattle.model.specs.Report.{ascii, signedDecimal, lastThree, amount}
-use Rattle.text.specs.Text.{Room}
+use Rattle.text.specs.Text.{TextFits}
 use Rattle.text.specs.Lines.{fraction}
 use Rattle.text.proofs.Puts.{room-first, room-then, put-then}
 use Rattle.text.proofs.Amounts.{size-few, rest-few, amount-is}
@@ -38,11 +38,11 @@ parts c =
     let s = c .before .before .before in
     amount-is (s .args .count) (s .args .base) (s .pre .0 .some) (sized (c .before)) (rw (toZ-ofZ (s .fits .count)) at (c .shows-minus .ensures))
 
-room-3 : (c : tie.After-shows-minus) → Room (c .before .before .before .args .at) (whole-part c ++ (46 ∷ []) ++ rest-part c) (c .before .before .before .args .out .now)
+room-3 : (c : tie.After-shows-minus) → TextFits (c .before .before .before .args .at) (whole-part c ++ (46 ∷ []) ++ rest-part c) (c .before .before .before .args .out .now)
 unfolding ascii
 room-3 c = rw (parts c) at (c .before .before .before .pre .1)
 
-room-2 : (c : tie.After-shows-minus) → Room (c .before .before .before .args .at) (whole-part c ++ (46 ∷ [])) (c .before .before .before .args .out .now)
+room-2 : (c : tie.After-shows-minus) → TextFits (c .before .before .before .args .at) (whole-part c ++ (46 ∷ [])) (c .before .before .before .args .out .now)
 room-2 c = room-first (whole-part c ++ (46 ∷ [])) (rest-part c) (room-3 c)
 
 put-signed-requires : tie.Need-put-signed-requires

@@ -4,7 +4,7 @@ use mathlib.Core.List.{List, [], _∷_, _++_}
 use native.Mathlib.Omega.{arith}
 use borrow.Author.Needs.{needs}
 use Rattle.model.specs.Report.{lastThree}
-use Rattle.text.specs.Text.{Room}
+use Rattle.text.specs.Text.{TextFits}
 use Rattle.text.proofs.Puts.{room-byte, room-first, room-then, put-then}
 use Rattle.text.proofs.amount.put_three.Statement.{statement}
 use Rattle.text.proofs.amount.put_three.Tie as tie
@@ -14,11 +14,11 @@ abbrev last : ℕ → List ℕ
 last n = (48 + n % 10) ∷ []
 
 -- room for the first two digits, and for all three
-room-2 : (s : tie.Start) → Room (s .args .at) (last (s .args .rest / 100) ++ last (s .args .rest / 10)) (s .args .out .now)
+room-2 : (s : tie.Start) → TextFits (s .args .at) (last (s .args .rest / 100) ++ last (s .args .rest / 10)) (s .args .out .now)
 unfolding lastThree
 room-2 s = room-first (last (s .args .rest / 100) ++ last (s .args .rest / 10)) (last (s .args .rest)) (s .pre)
 
-room-3 : (s : tie.Start) → Room (s .args .at) (last (s .args .rest / 100) ++ last (s .args .rest / 10) ++ last (s .args .rest)) (s .args .out .now)
+room-3 : (s : tie.Start) → TextFits (s .args .at) (last (s .args .rest / 100) ++ last (s .args .rest / 10) ++ last (s .args .rest)) (s .args .out .now)
 unfolding lastThree
 room-3 s = s .pre
 

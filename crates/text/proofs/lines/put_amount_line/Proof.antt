@@ -4,14 +4,14 @@ use mathlib.Core.List.{List, [], _∷_, _++_}
 use borrow.Author.Needs.{needs}
 use mir.Facts.{toZ-ofZ}
 use Rattle.model.specs.Report.{ascii, decimal, amount, line}
-use Rattle.text.specs.Text.{Room, Put}
+use Rattle.text.specs.Text.{TextFits, Put}
 use Rattle.text.specs.Lines.{fraction, amountLine}
 use Rattle.text.proofs.Puts.{room-first, room-then, put-then}
 use Rattle.text.proofs.lines.put_amount_line.Statement.{statement}
 use Rattle.text.proofs.lines.put_amount_line.Tie as tie
 
 abbrev player-part : tie.Start → List ℕ
-player-part s = s .args .label .now ++ decimal (s .args .player)
+player-part s = s .args .label .now ++ decimal (s .args .player-number)
 
 abbrev between-part : tie.Start → List ℕ
 between-part s = player-part s ++ s .args .between .now
@@ -20,14 +20,14 @@ abbrev amount-part : tie.Start → List ℕ
 amount-part s = between-part s ++ amount (fraction (s .args .count) (s .args .base))
 
 -- room for the first parts, up to the whole line
-room-4 : (s : tie.Start) → Room (s .args .at) (amount-part s ++ (10 ∷ [])) (s .args .out .now)
+room-4 : (s : tie.Start) → TextFits (s .args .at) (amount-part s ++ (10 ∷ [])) (s .args .out .now)
 unfolding amountLine line ascii
 room-4 s = s .pre .1
 
-room-3 : (s : tie.Start) → Room (s .args .at) (amount-part s) (s .args .out .now)
+room-3 : (s : tie.Start) → TextFits (s .args .at) (amount-part s) (s .args .out .now)
 room-3 s = room-first (amount-part s) (10 ∷ []) (room-4 s)
 
-room-2 : (s : tie.Start) → Room (s .args .at) (between-part s) (s .args .out .now)
+room-2 : (s : tie.Start) → TextFits (s .args .at) (between-part s) (s .args .out .now)
 room-2 s = room-first (between-part s) (amount (fraction (s .args .count) (s .args .base))) (room-3 s)
 
 put-numbered-requires : tie.Need-put-numbered-requires

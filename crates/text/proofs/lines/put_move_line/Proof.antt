@@ -4,7 +4,7 @@ use mathlib.Core.Path.{_≡_, ap}
 use mathlib.Core.List.{List, [], _∷_, _++_, append-assoc}
 use borrow.Author.Needs.{needs}
 use Rattle.model.specs.Report.{ascii, decimal, line, moveLine}
-use Rattle.text.specs.Text.{Room}
+use Rattle.text.specs.Text.{TextFits}
 use Rattle.text.proofs.Puts.{room-first, room-then, put-then}
 use Rattle.text.proofs.lines.put_move_line.Statement.{statement}
 use Rattle.text.proofs.lines.put_move_line.Tie as tie
@@ -20,10 +20,10 @@ parts : (s : tie.Start) → moveLine (s .args .set, s .args .place) ≡ set-part
 unfolding moveLine line ascii
 parts s = ap (λ (l : List ℕ). l ++ (10 ∷ [])) (append-assoc (set-part s) (ascii " move ") (decimal (s .args .place)))
 
-room-3 : (s : tie.Start) → Room (s .args .at) (set-part s ++ move-part s ++ (10 ∷ [])) (s .args .out .now)
+room-3 : (s : tie.Start) → TextFits (s .args .at) (set-part s ++ move-part s ++ (10 ∷ [])) (s .args .out .now)
 room-3 s = rw (parts s) at (s .pre)
 
-room-2 : (s : tie.Start) → Room (s .args .at) (set-part s ++ move-part s) (s .args .out .now)
+room-2 : (s : tie.Start) → TextFits (s .args .at) (set-part s ++ move-part s) (s .args .out .now)
 room-2 s = room-first (set-part s ++ move-part s) (10 ∷ []) (room-3 s)
 
 put-numbered-requires : tie.Need-put-numbered-requires

@@ -5,7 +5,7 @@ use native.Mathlib.Omega.{arith}
 use borrow.Author.Needs.{needs}
 use Rattle.algebra.specs.Arrays.{Holds}
 use Rattle.model.specs.Game.{gameOf}
-use Rattle.records.proofs.Reading.{readable}
+use Rattle.records.proofs.Widths.{readable}
 use Rattle.tree.proofs.Moves.{Stands, stands}
 use Rattle.tree.proofs.Weights.{weightTo, sums-first, sums-more, sums-last, sum-small}
 use Rattle.tree.proofs.children.add_weights.Statement.{statement}

@@ -10,7 +10,7 @@ use borrow.Author.Tests.{eq-eqb, ne-eqb}
 use Rattle.model.specs.Game.{gameOf}
 use Rattle.tree.specs.Children.{complete}
 use Rattle.checks.proofs.Passes.{Passed, passed-none, passed-more, passed-not, passed-all}
-use Rattle.records.proofs.Reading.{readable}
+use Rattle.records.proofs.Widths.{readable}
 use Rattle.tree.proofs.Moves.{complete-is}
 use Rattle.tree.proofs.children.all_complete.Statement.{statement}
 use Rattle.tree.proofs.children.all_complete.Tie as tie

@@ -7,7 +7,7 @@ use Rattle.model.specs.GameChecks.{weightsObeyRules}
 use Rattle.model.proofs.Budget.{game-limits}
 use Rattle.tree.specs.Children.{weightTest}
 use Rattle.checks.proofs.Passes.{Passed, passed-none, passed-more, passed-not, passed-all}
-use Rattle.records.proofs.Reading.{readable}
+use Rattle.records.proofs.Widths.{readable}
 use Rattle.tree.proofs.children.all_weights_right.Statement.{statement}
 use Rattle.tree.proofs.children.all_weights_right.Tie as tie
 

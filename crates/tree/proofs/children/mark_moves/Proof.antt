@@ -8,7 +8,7 @@ use borrow.Author.Needs.{needs}
 use Rattle.model.specs.Game.{gameOf}
 use Rattle.tree.specs.Children.{met, Marked, alone}
 use Rattle.checks.proofs.Passes.{Passed, passed-more, passed-not, passed-all}
-use Rattle.records.proofs.Reading.{readable}
+use Rattle.records.proofs.Widths.{readable}
 use Rattle.tree.proofs.Masks.{mask-fits}
 use Rattle.tree.proofs.Moves.{Stands, stands, alone-is, not-met, was-met, digit-more, marked-more, alone-first, marked-first}
 use Rattle.tree.proofs.children.mark_moves.Statement.{statement}

@@ -5,7 +5,7 @@ use native.Mathlib.Omega.{arith}
 use Rattle.model.specs.Game.{gameOf}
 use Rattle.model.specs.GameChecks.{attached, nodesAttached}
 use Rattle.checks.proofs.Passes.{Passed, passed-none, passed-more, passed-not, passed-all}
-use Rattle.records.proofs.Reading.{readable}
+use Rattle.records.proofs.Widths.{readable}
 use Rattle.tree.proofs.each_record.nodes_attached.Statement.{statement}
 use Rattle.tree.proofs.each_record.nodes_attached.Tie as tie
 

@@ -6,7 +6,7 @@ use mathlib.Core.Path.{_≡_, _∙_}
 use Rattle.model.specs.Game.{gameOf}
 use Rattle.model.specs.GameChecks.{payloadInRange, payloadsInRange}
 use Rattle.checks.proofs.Passes.{Passed, passed-none, passed-more, passed-not, passed-all}
-use Rattle.records.proofs.Reading.{readable}
+use Rattle.records.proofs.Widths.{readable}
 use Rattle.tree.proofs.NodeTests.{in-range-is}
 use Rattle.tree.proofs.each_record.payloads_in_range.Statement.{statement}
 use Rattle.tree.proofs.each_record.payloads_in_range.Tie as tie

@@ -6,7 +6,7 @@ use mathlib.Core.Path.{_≡_, ap, _∙_}
 use Rattle.model.specs.Game.{gameOf}
 use Rattle.model.specs.GameChecks.{isMoveCount, setMovesInRange}
 use Rattle.checks.proofs.Passes.{Passed, passed-none, passed-more, passed-not, passed-all}
-use Rattle.records.proofs.Reading.{few-sets}
+use Rattle.records.proofs.Widths.{few-sets}
 use Rattle.tree.proofs.each_record.set_moves_in_range.Statement.{statement}
 use Rattle.tree.proofs.each_record.set_moves_in_range.Tie as tie
 

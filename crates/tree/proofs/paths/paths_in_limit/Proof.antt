@@ -4,7 +4,7 @@ use mathlib.Core.Path.{refl}
 use native.Mathlib.Omega.{arith}
 use borrow.Author.Needs.{needs}
 use Rattle.model.specs.Game.{gameOf}
-use Rattle.records.proofs.Reading.{readable}
+use Rattle.records.proofs.Widths.{readable}
 use Rattle.tree.proofs.Depths.{Measured, Further, measured-root, further, measured-more, measured-not, measured-all}
 use Rattle.tree.proofs.paths.paths_in_limit.Statement.{statement}
 use Rattle.tree.proofs.paths.paths_in_limit.Tie as tie

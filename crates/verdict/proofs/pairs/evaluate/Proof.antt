@@ -1,14 +1,14 @@
 -- The pair's refusal, or what is evaluated of its weights.
 use borrow.Author.Needs.{needs}
-use Rattle.plan.proofs.Pairs.{pair-sent}
-use Rattle.verdict.proofs.Evaluated.{evaluate-asks, pair-evaluated, pair-refused}
+use Rattle.plan.proofs.Pairs.{pair-refused-with}
+use Rattle.verdict.proofs.EvaluatedPairs.{evaluate-asks, pair-evaluated, pair-refused}
 use Rattle.verdict.proofs.pairs.evaluate.Statement.{statement}
 use Rattle.verdict.proofs.pairs.evaluate.Tie as tie
 
 refused : tie.Need-returns
 refused c =
     let a = c .before .before .before .before .before .before .before .before .before .before .before .before .args in
-    let s = pair-sent (a .game .now) (a .plan .now) (c .before .before .before .before .before .read .ensures .0) (c .before .enum-told .given .1) (c .refusal .ensures) in
+    let s = pair-refused-with (a .game .now) (a .plan .now) (c .before .before .before .before .before .read .ensures .0) (c .before .enum-told .given .1) (c .refusal .ensures) in
     pair-refused (a .game .now) (a .plan .now) (s .0) (s .1)
 
 evaluate-requires : tie.Need-evaluate-requires

@@ -2,8 +2,8 @@
 use borrow.Author.Needs.{needs}
 use mir.Syntax.{w64}
 use mir.Facts.{toZ-ofZ}
-use Rattle.verdict.proofs.Evaluated.{evaluation-opened, evaluation-sent}
-use Rattle.verdict.proofs.Valued.{values-refused, values-given}
+use Rattle.verdict.proofs.EvaluatedPairs.{evaluation-opened, evaluation-refused-with}
+use Rattle.verdict.proofs.ValuesAnswered.{values-refused, values-given}
 use Rattle.verdict.proofs.values.values.Statement.{statement}
 use Rattle.verdict.proofs.values.values.Tie as tie
 
@@ -12,7 +12,7 @@ refused c =
     let a = c .before .before .before .before .before .before .before .before .before .before .args in
     let g = a .game .now in
     let p = a .plan .now in
-    let s = evaluation-sent g p (c .before .before .before .before .before .evaluate .ensures .0) (c .before .enum-told .given .1) (c .refusal .ensures) in
+    let s = evaluation-refused-with g p (c .before .before .before .before .before .evaluate .ensures .0) (c .before .enum-told .given .1) (c .refusal .ensures) in
     values-refused g p (s .0) (s .1)
 
 given : tie.Need-returns-2

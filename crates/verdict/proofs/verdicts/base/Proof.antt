@@ -1,7 +1,7 @@
 -- The product is bounded by the widths of its factors.
 use native.Mathlib.Omega.{arith}
 use borrow.Author.Needs.{needs}
-use Rattle.verdict.proofs.Judged.{base-small}
+use Rattle.verdict.proofs.VerdictAnswered.{base-small}
 use Rattle.verdict.proofs.verdicts.base.Statement.{statement}
 use Rattle.verdict.proofs.verdicts.base.Tie as tie
 

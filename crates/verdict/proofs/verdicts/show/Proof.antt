@@ -7,11 +7,11 @@ use borrow.Author.Needs.{needs}
 use mir.Facts.{toZ-ofZ}
 use lib.Dec.{leb, leb→le}
 use lib.ListN.{length, length-map}
+use Rattle.algebra.specs.Arrays.{item}
 use Rattle.model.specs.Game.{gameOf, playerOf}
 use Rattle.model.specs.Earnings.{setsOf}
-use Rattle.model.specs.Writing.{entry}
 use Rattle.checks.proofs.Chains.{fine-test}
-use Rattle.verdict.proofs.Shown.{shown-short, shown-given}
+use Rattle.verdict.proofs.Showing.{shown-short, shown-given}
 use Rattle.verdict.proofs.verdicts.show.Statement.{statement}
 use Rattle.verdict.proofs.verdicts.show.Tie as tie
 
@@ -19,7 +19,7 @@ returns : tie.Need-returns
 returns c =
     let a = c .before .before .before .before .before .before .before .before .args in
     let sets = setsOf (gameOf (a .game .now)) (playerOf (a .player)) in
-    shown-short _ _ _ (map (entry (a .moves .now)) sets) (a .out .now) (c .before .before .before .before .set-count .ensures ∙ sym (length-map sets (entry (a .moves .now)))) (c .before .before .before .has-room .ensures) (c .before .enum-told2 .given .1) (c .number .ensures)
+    shown-short _ _ _ (map (item (a .moves .now)) sets) (a .out .now) (c .before .before .before .before .set-count .ensures ∙ sym (length-map sets (item (a .moves .now)))) (c .before .before .before .has-room .ensures) (c .before .enum-told2 .given .1) (c .number .ensures)
 
 returns-2 : tie.Need-returns-2
 returns-2 c =
@@ -27,7 +27,7 @@ returns-2 c =
     let a = s .args in
     let sets = setsOf (gameOf (a .game .now)) (playerOf (a .player)) in
     rw (toZ-ofZ (s .fits .gain), add-one)
-    (shown-given _ _ _ (map (entry (a .moves .now)) sets) (a .out .now) (c .before .before .before .before .before .before .before .set-count .ensures ∙ sym (length-map sets (entry (a .moves .now)))) (c .before .before .before .before .before .before .has-room .ensures) (c .before .before .before .before .enum-told .given .1) (c .before .before .put-strategy .ensures))
+    (shown-given _ _ _ (map (item (a .moves .now)) sets) (a .out .now) (c .before .before .before .before .before .before .before .set-count .ensures ∙ sym (length-map sets (item (a .moves .now)))) (c .before .before .before .before .before .before .has-room .ensures) (c .before .before .before .before .enum-told .given .1) (c .before .before .put-strategy .ensures))
 
 put-strategy-requires : tie.Need-put-strategy-requires
 put-strategy-requires c κs =

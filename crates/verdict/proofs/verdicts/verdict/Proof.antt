@@ -4,16 +4,16 @@ use native.Mathlib.Omega.{arith}
 use borrow.Author.Needs.{needs}
 use Rattle.model.specs.Game.{gameOf, one, two}
 use Rattle.model.specs.Plan.{planPairOf}
-use Rattle.verdict.proofs.Evaluated.{EvaluationOpened, evaluation-opened, evaluation-sent}
-use Rattle.verdict.proofs.Judged.{pair-refused, accepted-given, strategy-given, base-is, base-asks, judge-asks, judged-as, show-asks, first-deviates, second-deviates}
-use Rattle.judgement.proofs.Judging.{says-equilibrium}
+use Rattle.verdict.proofs.EvaluatedPairs.{EvaluationOpened, evaluation-opened, evaluation-refused-with}
+use Rattle.verdict.proofs.VerdictAnswered.{pair-refused, accepted-given, strategy-given, base-is, base-asks, judge-asks, judged-as, show-asks, first-deviates, second-deviates}
+use Rattle.judgement.proofs.Judgement.{says-equilibrium}
 use Rattle.verdict.proofs.verdicts.verdict.Statement.{statement}
 use Rattle.verdict.proofs.verdicts.verdict.Tie as tie
 
 refused : tie.Need-returns
 refused c =
     let a = c .before .before .before .before .before .before .before .before .before .before .before .args in
-    let s = evaluation-sent (a .game .now) (a .plan .now) (c .before .before .before .before .before .evaluate .ensures .0) (c .before .enum-told .given .1) (c .refusal .ensures) in
+    let s = evaluation-refused-with (a .game .now) (a .plan .now) (c .before .before .before .before .before .evaluate .ensures .0) (c .before .enum-told .given .1) (c .refusal .ensures) in
     pair-refused (a .game .now) (a .plan .now) (a .moves .now) (s .0) (s .1)
 
 -- what is known of the pair, once it is taken apart

@@ -5,7 +5,8 @@ use native.Mathlib.Omega.{arith}
 use borrow.Author.Needs.{needs, sfits-of}
 use lib.ListN.{length}
 use mir.Facts.{toZ-ofZ}
-use Rattle.writers.proofs.Passes.{Passed, passed-none, passed-more, passed-not, passed-all, inRangeAt, each-in-range}
+use Rattle.checks.proofs.Passes.{Passed, passed-none, passed-more, passed-false, passed-true}
+use Rattle.writers.proofs.EachFits.{inRangeAt, each-in-range}
 use Rattle.writers.proofs.fit.all_fit_signed.Statement.{statement}
 use Rattle.writers.proofs.fit.all_fit_signed.Tie as tie
 
@@ -20,10 +21,10 @@ made : (c : tie.After-fits-signed Inv-loop μ-loop) → c .fits-signed .result �
 made c = rw (toZ-ofZ (sfits-of (c .before .fits-signed-arg .given))) at (c .fits-signed .ensures)
 
 again : tie.Need-loop-again Inv-loop μ-loop
-again c = passed-more (c .before .before .before .before .loop .inv) (omega arith) (made (c .before)) (c .if1 .taken)
+again c = passed-more _ _ _ _ (c .before .before .before .before .loop .inv) (omega arith) (made (c .before)) (c .if1 .taken)
 
 stops : tie.Need-returns Inv-loop μ-loop
-stops c = passed-not (c .before .before .before .before .loop .inv) (omega arith) (made (c .before)) (c .if1 .left) ∙ each-in-range _ _
+stops c = passed-false _ _ _ _ (omega arith) (made (c .before)) (c .if1 .left) ∙ each-in-range _ _
 
 pub all-fit-signed-spec : {M : Type 1} → statement M
 all-fit-signed-spec =
@@ -31,7 +32,7 @@ all-fit-signed-spec =
     (tie.spec
     Inv-loop
     μ-loop
-    (λ c. passed-none)
+    (λ c. passed-none _ _)
     (λ c. omega arith)
     (λ c. omega arith)
     (λ c κs. search needs)
@@ -39,4 +40,4 @@ all-fit-signed-spec =
     (λ c. omega arith)
     again
     stops
-    (λ c. passed-all (c .before .loop .inv) (omega arith) ∙ each-in-range _ _))
+    (λ c. passed-true _ _ _ (c .before .loop .inv) (omega arith) ∙ each-in-range _ _))

@@ -1,5 +1,5 @@
 -- The invariant: the records of the nodes before `n` are put.
-use Prim.Native.Nat.{_-_}
+use Prim.Native.Nat.{_-_, _/_}
 use mathlib.Core.Path.{_≡_, refl}
 use native.Mathlib.Omega.{arith}
 use lib.ListN.{length}
@@ -11,11 +11,11 @@ use Rattle.writers.proofs.game.put_nodes.Statement.{statement}
 use Rattle.writers.proofs.game.put_nodes.Tie as tie
 
 abbrev Inv-loop : tie.InvT-loop
-Inv-loop kinds parents moves weights node-sets chance-moves payoffs1 payoffs2 out₀ from n₀ out n =
-    Putting from (nodeBits (nodeLists kinds parents moves weights node-sets chance-moves payoffs1 payoffs2)) (length kinds) out₀ n out
+Inv-loop kinds parents moves weights node-sets chance-moves payoffs1 payoffs2 out₀ records n₀ out n =
+    Putting (records / 8) (nodeBits (nodeLists kinds parents moves weights node-sets chance-moves payoffs1 payoffs2)) (length kinds) out₀ n out
 
 abbrev μ-loop : tie.MeasureT-loop
-μ-loop kinds parents moves weights node-sets chance-moves payoffs1 payoffs2 out₀ from n₀ out n = length kinds - n
+μ-loop kinds parents moves weights node-sets chance-moves payoffs1 payoffs2 out₀ records n₀ out n = length kinds - n
 
 long : (c : tie.At-loop Inv-loop μ-loop) → length (c .loop .out) ≡ length (c .before .before .before .before .before .before .before .before .args .out .now)
 long c = putting-long _ 8 _ (node-width _) _ _ (omega arith) _ _ (c .loop .inv)
@@ -24,12 +24,12 @@ fits : tie.Need-put-requires Inv-loop μ-loop
 fits c κs =
     let start = c .before .before .before .before .before .before .before .before .before .before .before in
     let n = c .before .before .before .loop .n in
-    (rw (c .before .at .ensures) (start .pre .0 .each n (omega arith)), omega (arith, start .pre .0 .few), omega (arith, long (c .before .before .before)))
+    (start .pre .1, start .pre .2, omega (arith, start .pre .0 .few), omega (arith, long (c .before .before .before)))
 
 again : tie.Need-loop-again Inv-loop μ-loop
 again c =
     let l = c .before .before .before .before .before .before in
-    putting-more _ 8 _ (node-width _) _ _ (omega arith) _ _ (l .loop .inv) _ _ _ (omega arith) refl (record-made _ _ _ (c .before .before .before .before .at .ensures)) (c .before .before .put .ensures)
+    putting-more _ 8 _ (node-width _) _ _ (omega arith) _ _ (l .loop .inv) _ _ _ (omega arith) refl (record-made _ _ _ (c .before .before .before .before .node-at .ensures)) (c .before .before .put .ensures)
 
 pub put-nodes-spec : {M : Type 1} → statement M
 put-nodes-spec =
@@ -38,9 +38,7 @@ put-nodes-spec =
     Inv-loop
     μ-loop
     (λ c. putting-none _ 8 _ (node-width _) _ _)
-    (λ c κs. (omega arith, c .before .before .before .before .before .before .before .before .before .pre .0 .beside))
-    (λ c. omega arith)
-    (λ c. omega arith)
+    (λ c κs. (omega arith, c .before .before .before .before .before .before .before .before .before .pre .0))
     fits
     (λ c. omega arith)
     (λ c. omega arith)

@@ -1,9 +1,11 @@
 -- The invariant: the entries of the sets before `h` are put.
 use Prim.Native.Nat.{_+_, _-_}
-use mathlib.Core.Path.{_≡_, refl}
+use mathlib.Core.Path.{_≡_}
 use native.Mathlib.Omega.{arith}
+use borrow.Author.Needs.{needs}
 use lib.ListN.{length}
 use Rattle.model.specs.Writing.{setBits}
+use Rattle.records.specs.Records.{entryBits}
 use Rattle.writers.specs.GameWriter.{setLists}
 use Rattle.writers.proofs.Nodes.{set-width}
 use Rattle.writers.proofs.Puttings.{Putting, putting-none, putting-long, putting-more, putting-all}
@@ -20,11 +22,11 @@ long : (c : tie.At-loop Inv-loop μ-loop) → length (c .loop .out) ≡ length (
 long c = putting-long 5 1 _ (set-width _) _ _ (omega arith) _ _ (c .loop .inv)
 
 again : tie.Need-loop-again Inv-loop μ-loop
-unfolding setBits
+unfolding setBits entryBits
 again c =
-    let l = c .before .before .before .before .before .before .before in
+    let l = c .before .before .before .before .before .before .before .before in
     let a = l .before .before .before .before .args in
-    putting-more 5 1 _ (set-width (setLists 0 (a .set-players .now) (a .set-moves .now))) _ _ (omega arith) _ _ (l .loop .inv) (5 + l .loop .h) _ _ (omega arith) (omega arith) refl (c .before .before .put .ensures)
+    putting-more 5 1 _ (set-width (setLists 0 (a .set-players .now) (a .set-moves .now))) _ _ (omega arith) _ _ (l .loop .inv) (5 + l .loop .h) _ _ (omega arith) (omega arith) (rw (c .before .before .before .before .index .ensures)) (c .before .before .put .ensures)
 
 pub put-sets-spec : {M : Type 1} → statement M
 put-sets-spec =
@@ -37,8 +39,8 @@ put-sets-spec =
     (λ c. omega arith)
     (λ c. omega arith)
     (λ c. omega arith)
-    (λ c. omega arith)
-    (λ c κs. (omega (arith, c .before .before .before .before .before .before .before .before .pre .0 .few), omega (arith, long (c .before .before .before .before))))
+    (λ c κs. search needs)
+    (λ c κs. (omega (arith, c .before .before .before .before .before .before .before .before .before .pre .0 .few), omega (arith, long (c .before .before .before .before .before))))
     (λ c. omega arith)
     (λ c. omega arith)
     again

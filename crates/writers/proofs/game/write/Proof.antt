@@ -1,6 +1,10 @@
 -- 17 comes first, then 18; with room for the file it is written.
+use mathlib.Core.Path.{refl}
+use native.Mathlib.Omega.{arith}
 use borrow.Author.Needs.{needs}
-use Rattle.model.specs.Writing.{GameFields, gameFields}
+use Rattle.model.specs.Writing.{GameFields, gameFields, setCount, nodeCount}
+use Rattle.model.proofs.FieldRules.{FieldRules}
+use Rattle.writers.proofs.GameWriter.{fitting}
 use Rattle.writers.proofs.Refusals.{has-room}
 use Rattle.writers.proofs.GameFiles.{game-fits, game-misfit, game-short, game-written}
 use Rattle.writers.proofs.game.write.Statement.{statement}
@@ -17,34 +21,50 @@ misfits c =
     let start = c .before .before .before .before .before .before .before .before .before .before .before .before .before .before in
     game-misfit (given start) (start .args .out .now) (c .before .before .before .before .fields-fit .ensures) (c .before .before .before .check .ensures) (c .before .enum-told2 .given .1) (c .number .ensures)
 
+-- the counts of fields that fit
+counted : (c : tie.After-enum-told) → FieldRules (given (c .before .before .before .before .before .before .before .before .before .before .before .before .before))
+counted c = fitting _ (game-fits (given (c .before .before .before .before .before .before .before .before .before .before .before .before .before)) (c .before .before .before .before .before .before .before .before .before .before .before .before .before .args .out .now) (c .before .before .before .fields-fit .ensures) (c .before .before .check .ensures) (c .enum-told .given .1))
+
+few : tie.Need-new-requires
+unfolding setCount
+few c κs = omega (arith, counted c .sets)
+
+counts : tie.Need-file-bytes-requires
+unfolding setCount nodeCount
+counts c κs = rw (c .new .ensures) (omega (arith, counted (c .before) .nodes), omega (arith, counted (c .before) .sets))
+
 too-short : tie.Need-returns-2
 too-short c =
-    let start = c .before .before .before .before .before .before .before .before .before .before .before .before .before .before .before .before .before in
+    let start = c .before .before .before .before .before .before .before .before .before .before .before .before .before .before .before .before .before .before .before in
     game-short (given start) (start .args .out .now)
-    (c .before .before .before .before .before .before .before .fields-fit .ensures)
-    (c .before .before .before .before .before .before .check .ensures)
-    (c .before .before .before .before .enum-told .given .1)
+    (c .before .before .before .before .before .before .before .before .before .fields-fit .ensures)
+    (c .before .before .before .before .before .before .before .before .check .ensures)
+    (c .before .before .before .before .before .before .enum-told .given .1)
+    (rw (c .before .before .before .before .before .new .ensures) at (c .before .before .before .before .file-bytes .ensures))
     (c .before .before .before .has-room .ensures)
     (c .before .enum-told4 .given .1)
     (c .number2 .ensures)
 
 ready : tie.Need-put-game-requires
 ready c κs =
-    let start = c .before .before .before .before .before .before .before .before .before .before .before .before .before .before .before .before .before in (
-      game-fits (given start) (start .args .out .now) (c .before .before .before .before .before .before .before .fields-fit .ensures) (c .before .before .before .before .before .before .check .ensures) (c .before .before .before .before .enum-told .given .1),
-      has-room (c .before .before .before .has-room .ensures) (c .before .enum-told3 .given .1),
+    let start = c .before .before .before .before .before .before .before .before .before .before .before .before .before .before .before .before .before .before .before in
+    rw (c .before .before .before .before .before .new .ensures) (
+      refl,
+      game-fits (given start) (start .args .out .now) (c .before .before .before .before .before .before .before .before .before .fields-fit .ensures) (c .before .before .before .before .before .before .before .before .check .ensures) (c .before .before .before .before .before .before .enum-told .given .1),
+      has-room (rw (c .before .before .before .before .before .new .ensures) at (c .before .before .before .before .file-bytes .ensures)) (c .before .before .before .has-room .ensures) (c .before .enum-told3 .given .1),
     )
 
 all-written : tie.Need-returns-3
 all-written c =
-    let start = c .before .before .before .before .before .before .before .before .before .before .before .before .before .before .before .before .before .before .before .before in
+    let start = c .before .before .before .before .before .before .before .before .before .before .before .before .before .before .before .before .before .before .before .before .before .before in
     game-written (given start) (start .args .out .now)
-    (c .before .before .before .before .before .before .before .before .before .before .fields-fit .ensures)
-    (c .before .before .before .before .before .before .before .before .before .check .ensures)
-    (c .before .before .before .before .before .before .before .enum-told .given .1)
+    (c .before .before .before .before .before .before .before .before .before .before .before .before .fields-fit .ensures)
+    (c .before .before .before .before .before .before .before .before .before .before .before .check .ensures)
+    (c .before .before .before .before .before .before .before .before .before .enum-told .given .1)
+    (rw (c .before .before .before .before .before .before .before .before .new .ensures) at (c .before .before .before .before .before .before .before .file-bytes .ensures))
     (c .before .before .before .before .before .before .has-room .ensures)
     (c .before .before .before .before .enum-told3 .given .1)
-    (c .before .before .put-game .ensures)
+    (rw (c .before .before .before .before .before .before .before .before .new .ensures) at (c .before .before .put-game .ensures))
 
 pub write-spec : {M : Type 1} → statement M
 write-spec =
@@ -56,9 +76,8 @@ write-spec =
     (λ c. search needs)
     (λ c κs. search needs)
     misfits
-    (λ c. search needs)
-    (λ c. search needs)
-    (λ c. search needs)
+    few
+    counts
     (λ c κs. search needs)
     (λ c. search needs)
     (λ c. search needs)

@@ -1,8 +1,7 @@
 -- 17 comes first, then 18; with room for the file it is written.
-use native.Mathlib.Omega.{arith}
 use borrow.Author.Needs.{needs}
 use Rattle.writers.proofs.Refusals.{has-room}
-use Rattle.writers.proofs.PlanFiles.{plan-fits, plan-misfit, plan-short, plan-written}
+use Rattle.writers.proofs.PlanFiles.{plan-misfit, plan-short, plan-written}
 use Rattle.writers.proofs.plan.write.Statement.{statement}
 use Rattle.writers.proofs.plan.write.Tie as tie
 
@@ -13,31 +12,30 @@ misfits c =
 
 too-short : tie.Need-returns-2
 too-short c =
-    let a = c .before .before .before .before .before .before .before .before .before .before .args in
+    let a = c .before .before .before .before .before .before .before .before .before .before .before .args in
     plan-short (a .d1) (a .d2) (a .weights .now) (a .out .now)
-    (c .before .before .before .before .before .before .before .numbers-fit .ensures)
-    (c .before .before .before .before .before .before .check .ensures)
-    (c .before .before .before .before .enum-told .given .1)
+    (c .before .before .before .before .before .before .before .before .numbers-fit .ensures)
+    (c .before .before .before .before .before .before .before .check .ensures)
+    (c .before .before .before .before .before .enum-told .given .1)
+    (c .before .before .before .before .file-bytes .ensures)
     (c .before .before .before .has-room .ensures)
     (c .before .enum-told4 .given .1)
     (c .number2 .ensures)
 
-fill-requires : tie.Need-fill-requires
-fill-requires c κs =
-    let a = c .before .before .before .before .before .before .before .before .before .before .args in
-    let fit = plan-fits (a .d1) (a .d2) (a .weights .now) (c .before .before .before .before .before .before .before .numbers-fit .ensures) (c .before .before .before .before .before .before .check .ensures) (c .before .before .before .before .enum-told .given .1) in
-    (omega arith, omega arith, has-room (c .before .before .before .has-room .ensures) (c .before .enum-told3 .given .1))
+put-plan-requires : tie.Need-put-plan-requires
+put-plan-requires c κs = has-room (c .before .before .before .before .file-bytes .ensures) (c .before .before .before .has-room .ensures) (c .before .enum-told3 .given .1)
 
 all-written : tie.Need-returns-3
 all-written c =
-    let a = c .before .before .before .before .before .before .before .before .before .before .before .before .before .args in
+    let a = c .before .before .before .before .before .before .before .before .before .before .before .before .before .before .args in
     plan-written (a .d1) (a .d2) (a .weights .now) (a .out .now)
-    (c .before .before .before .before .before .before .before .before .before .before .numbers-fit .ensures)
-    (c .before .before .before .before .before .before .before .before .before .check .ensures)
-    (c .before .before .before .before .before .before .before .enum-told .given .1)
+    (c .before .before .before .before .before .before .before .before .before .before .before .numbers-fit .ensures)
+    (c .before .before .before .before .before .before .before .before .before .before .check .ensures)
+    (c .before .before .before .before .before .before .before .before .enum-told .given .1)
+    (c .before .before .before .before .before .before .before .file-bytes .ensures)
     (c .before .before .before .before .before .before .has-room .ensures)
     (c .before .before .before .before .enum-told3 .given .1)
-    (c .before .before .fill .ensures)
+    (c .before .before .put-plan .ensures)
 
 pub write-spec : {M : Type 1} → statement M
 write-spec =
@@ -49,14 +47,12 @@ write-spec =
     (λ c. search needs)
     (λ c κs. search needs)
     misfits
-    (λ c. search needs)
-    (λ c. search needs)
-    (λ c. search needs)
+    (λ c κs. search needs)
     (λ c κs. search needs)
     (λ c. search needs)
     (λ c. search needs)
     (λ c κs. search needs)
     too-short
-    fill-requires
+    put-plan-requires
     (λ c. search needs)
     all-written)

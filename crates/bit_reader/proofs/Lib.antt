@@ -1,0 +1,2 @@
+pub mod PositionStep
+pub mod Steps
