@@ -1,8 +1,9 @@
 -- Tests of all numbers, searches, and the greatest of integers.
-use Prim.Native.Nat.{ℕ, zero, suc, _+_, _≤_, _<_}
+use Prim.Native.Nat.{ℕ, zero, suc, _+_, _-_, _≤_, _<_}
 use mathlib.Core.Path.{_≡_, refl, sym, ap, _∙_, subst}
 use mathlib.Core.Bool.{Bool, true, false, not, _||_, cond}
 use native.Mathlib.Omega.{arith}
+use native.Mathlib.Nat.{add-zero}
 use native.Mathlib.Numerals.{add-one}
 use native.Mathlib.Decide.{ℕ-discrete, decLe}
 use lib.Dec.{T, ltb, ltb→lt, lt→ltb}
@@ -10,7 +11,7 @@ use mir.Facts.{and-yes, yes-and}
 use lib.IntN.{ℤ}
 use lib.Signed.{_≤ℤ_, ltZ, ltZ-yes, ltZ-no, ≤ℤ-refl}
 use Rattle.algebra.specs.Bounded.{allTo, anyTo, firstTo, larger, maxThrough}
-use Rattle.algebra.proofs.Tests.{dec, cond-no, bool-same, or-left, or-right, false→not, not→false}
+use Rattle.algebra.proofs.Tests.{dec, cond-yes, cond-no, bool-same, or-left, or-right, false→not, not→false}
 use Rattle.algebra.proofs.Integers.{≤ℤ-trans, <ℤ→≤ℤ}
 
 -- where all pass, each does
@@ -148,6 +149,44 @@ pub firstTo-cong : (n : ℕ) (p q : ℕ → Bool) → ((i : ℕ) → i < n → p
 unfolding firstTo
 firstTo-cong zero p q e = refl
 firstTo-cong (suc n) p q e = rw (e 0 (omega arith), firstTo-cong n (λ i. p (suc i)) (λ i. q (suc i)) (λ i l. e (suc i) (omega arith)))
+
+-- the least number from k on and below `count` that passes; `count` where none does
+abbrev pub firstFrom : (ℕ → Bool) → (count k : ℕ) → ℕ
+firstFrom p count k = k + firstTo (count - k) (λ i. p (k + i))
+
+-- Searches that begin at a number.
+module _ (p : ℕ → Bool) (count : ℕ) where
+  -- with no number left
+  pub from-end : firstFrom p count count ≡ count
+  from-end = omega (arith, firstTo-bound (count - count) (λ i. p (count + i)))
+
+  -- one number more
+  from-step : (k : ℕ) → k < count → firstFrom p count k ≡ cond (p k) k (firstFrom p count (k + 1))
+  unfolding firstTo
+  from-step k l =
+      let e : count - k ≡ suc rest = omega arith in
+      rw (e, add-zero k) (go (p k))
+    where
+      rest : ℕ
+      rest = count - (k + 1)
+
+      shift : (i : ℕ) → k + suc i ≡ k + 1 + i
+      shift i = omega arith
+
+      shifted : firstTo rest (λ i. p (k + suc i)) ≡ firstTo rest (λ i. p (k + 1 + i))
+      shifted j = firstTo rest (λ i. p (shift i j))
+
+      go : (b : Bool) → k + cond b 0 (suc (firstTo rest (λ i. p (k + suc i)))) ≡ cond b k (k + 1 + firstTo rest (λ i. p (k + 1 + i)))
+      go true = omega arith
+      go false = omega (arith, shifted)
+
+  -- a number that passes is the first from itself on
+  pub from-here : (k : ℕ) → k < count → T (p k) → firstFrom p count k ≡ k
+  from-here k l t = from-step k l ∙ cond-yes (p k) k (firstFrom p count (k + 1)) t
+
+  -- one that fails is passed over
+  pub from-next : (k : ℕ) → k < count → ¬ T (p k) → firstFrom p count (k + 1) ≡ firstFrom p count k
+  from-next k l t = sym (from-step k l ∙ cond-no (p k) k (firstFrom p count (k + 1)) t)
 
 -- the first of two is at most the larger
 pub larger-left : (a b : ℤ) → a ≤ℤ larger a b

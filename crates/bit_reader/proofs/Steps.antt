@@ -111,7 +111,7 @@ module _ {M : Type 1} (𝓤 : URA M) (H : Heap 𝓤) (A : Atoms 𝓤) (W : Given
 
 module _ {M : Type 1} {𝓤 : URA M} {H : Heap 𝓤} {A : Atoms 𝓤} {K : Type 0} {W : Given 𝓤 H A} {Γ : List (Item 𝓤)} {E : Env 𝓤 H} {C : Calls 𝓤 H} {Λ : Loops 𝓤 H} {p : Post 𝓤 H} {d : Place} {rest : Code} where
   -- a call's result, written another way
-  pub lands-as : K → {u w : Val} → u ≡ w → Step K W Γ (lands C Λ E d w rest p) Γ (lands C Λ E d u rest p)
+  lands-as : K → {u w : Val} → u ≡ w → Step K W Γ (lands C Λ E d w rest p) Γ (lands C Λ E d u rest p)
   lands-as t e = regoal t (λ (w : Val). lands C Λ E d w rest p) e refl
 
 module _ {M : Type 1} {𝓤 : URA M} {H : Heap 𝓤} {A : Atoms 𝓤} {K : Type 0} {W : Given 𝓤 H A} {Γ : List (Item 𝓤)} {E : Env 𝓤 H} {C : Calls 𝓤 H} {Λ : Loops 𝓤 H} {p : Post 𝓤 H} {xs : List Operand} {d : Place} {rest : Code} where

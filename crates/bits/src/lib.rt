@@ -60,6 +60,14 @@ pub fn power(n: usize) -> u64
     1u64 << n
 }
 
+// Of a word the number in the `width` bits above its last `below`: a shift and a remainder.
+pub fn cut(word: u64, below: usize, width: usize) -> u64
+    requires { ⌜ (below < 64) × (width < 64) ⌝ }
+    ensures { λ r. ⌜ (r ≡ word / 2 ^ below % 2 ^ width) × (r < 2 ^ width) ⌝ }
+{
+    (word >> below) % power(width)
+}
+
 // A field of 16 bits as two's complement: `x - 65536` in steps that each fit an `i16`.
 pub fn signed16(x: u64) -> i16
     requires { ⌜ x < 2 ^ 16 ⌝ }

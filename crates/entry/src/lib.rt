@@ -25,5 +25,5 @@ pub use verdict::ValuesAnswer;
 pub use verdict::VerdictAnswer;
 pub use verdict::values::values;
 pub use verdict::verdicts::verdict;
-pub use writers::game::write as write_game;
-pub use writers::plan::write as write_plan;
+pub use writers::game_writer::write as write_game;
+pub use writers::plan_writer::write as write_plan;

@@ -16,7 +16,7 @@ use Rattle.checks.specs.Checked.{checkedOf, numberOf}
 use Rattle.checks.proofs.Chains.{fine-holds, call-refuses, call-short, call-gives}
 use Rattle.checks.proofs.Files.{game-refuses, game-fine}
 use Rattle.checks.proofs.Rooms.{split, over-after}
-use Rattle.records.specs.declared.game.Header.{Header}
+use Rattle.records.specs.declared.game_file.Header.{Header}
 use Rattle.columns.specs.Columns.{FieldsFit, filled}
 use Rattle.records.proofs.Headers.{header-nodes, header-sets, header-weight}
 use Rattle.game.proofs.Refusals.{Opened, RefusedWith}

@@ -1,3 +1,1 @@
-pub mod BestMoves
-pub mod Prepared
 pub mod Values

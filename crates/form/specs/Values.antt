@@ -1,18 +1,31 @@
--- Both players' values and best values.
-use Prim.Native.Nat.{ℕ, _≤_}
+-- A pair of plans by its weights: what its evaluation needs, and what it gives.
+use Prim.Native.Nat.{ℕ}
 use mathlib.Core.Path.{_≡_}
 use mathlib.Core.Bool.{true}
 use mathlib.Core.List.{List}
-use lib.ListN.{length}
+use lib.IntN.{ℤ}
 use Rattle.algebra.specs.Arrays.{item, over}
-use Rattle.model.specs.Limits.{countLimit}
 use Rattle.model.specs.Game.{Game, one, two}
 use Rattle.model.specs.Plan.{PlanPair, pairFits}
 use Rattle.model.specs.Earnings.{valueCount}
 use Rattle.model.specs.BestResponse.{bestCount}
-use Rattle.plan.specs.Weights.{planByNumber, pairByNumber, Small}
-use Rattle.form.specs.BestMoves.{ownBestMove}
+use Rattle.loaded.specs.Loaded.{Loaded}
+use Rattle.loaded.specs.Weights.{planByNumber, pairByNumber, Weights}
+use Rattle.loaded.specs.declared.Counts.{Counts}
+use Rattle.responses.specs.BestMoves.{ownBestMove}
 use Rattle.form.specs.declared.Values.{Values}
+
+-- Both players' weights by number, of plans that fit.
+pub record PairWeights (g : Game) (x y : List ℕ) : Type 0 where
+  pub weights1 : Weights g one x
+  pub weights2 : Weights g two y
+  pub fit : pairFits g (pairByNumber g (item x) (item y)) ≡ true
+
+-- Some game is loaded, and x and y have the weights of a pair that fits it.
+pub record PairAsked (c : Counts) (numbers : List ℕ) (payoffs : List ℤ) (x y : List ℕ) : Type 0 where
+  pub game : Game
+  pub loaded : Loaded game c numbers payoffs
+  pub weights : PairWeights game x y
 
 -- each player's value over D0 × D1 × D2, and his best value over D0 × the other's D
 unfoldable pub valuesOf : Game → PlanPair → Values
@@ -24,11 +37,3 @@ Evaluated g x y moves1₀ moves2₀ moves1 moves2 r =
     (r ≡ valuesOf g (pairByNumber g (item x) (item y)))
     × (moves1 ≡ over (ownBestMove g one (planByNumber g two (item y))) (g .sets) moves1₀)
     × (moves2 ≡ over (ownBestMove g two (planByNumber g one (item x))) (g .sets) moves2₀)
-
--- Both players' weights by number, each within the limit, of plans that fit.
-pub record PairWeights (g : Game) (x y : List ℕ) : Type 0 where
-  pub long1 : countLimit ≤ length x
-  pub long2 : countLimit ≤ length y
-  pub small1 : Small (length x) x
-  pub small2 : Small (length y) y
-  pub fit : pairFits g (pairByNumber g (item x) (item y)) ≡ true

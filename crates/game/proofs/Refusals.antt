@@ -4,7 +4,7 @@ use mathlib.Core.Path.{_≡_, refl, sym, ap, _∙_}
 use mathlib.Core.List.{List}
 use native.Mathlib.Omega.{arith}
 use Rattle.model.specs.Checks.{gameRefusal}
-use Rattle.records.specs.declared.game.Header.{Header}
+use Rattle.records.specs.declared.game_file.Header.{Header}
 use Rattle.game.specs.declared.GameAnswer.{GameAnswer}
 use Rattle.game.specs.declared.GameAnswer.the-variants.{Accepted, Refused}
 use Rattle.records.specs.Records.{headerOf}

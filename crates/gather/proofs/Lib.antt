@@ -1,4 +1,4 @@
-pub mod Gathered
-pub mod LeafColumns
-pub mod LeafSums
-pub mod SetColumns
+pub mod ChainLaws
+pub mod LeafLaws
+pub mod Numbered
+pub mod OrderLaws

@@ -1,3 +1,2 @@
-pub mod Leaves
-pub mod Numbers
-pub mod Sets
+pub mod Numbered
+pub mod Gathered

@@ -1,4 +1,4 @@
-// A game gathered into number slices, once: its leaves, one place each, and its information sets, by number.
+// The last sections of a loaded game: its sets in order, its leaves, and the chains of sets that a sequence leads to.
+pub mod chains;
 pub mod leaves;
-pub mod numbers;
-pub mod sets;
+pub mod order;

@@ -1,6 +1,6 @@
 -- The record of a node as it was read, by its kind.
 use Rattle.model.specs.calls.NodeRecord as Model
-use Rattle.records.specs.declared.game.NodeRecord.{NodeRecord}
+use Rattle.records.specs.declared.game_file.NodeRecord.{NodeRecord}
 
 -- a node's parent, its move there and its chance weight, as they were read
 abbrev pub placeRead : NodeRecord → Model.Place

@@ -8,6 +8,8 @@ ghost use Rattle.model.specs.calls.OwnSequence.{ownSequence};
 ghost use Rattle.lookups.specs.Answers.{gameAnswered, setAnswered, nodeAnswered, sequenceAnswered};
 ghost use Rattle.lookups.specs.Records.{recordRead};
 use checks::Checked;
+use game::LoadAnswer;
+use loaded::Section;
 use records::NodeRecord;
 use records::Payload;
 use records::SetEntry;
@@ -141,19 +143,15 @@ pub fn node_record(game: &[u8], number: u64) -> NodeAnswer
 pub fn own_sequence(game: &[u8], number: u64) -> SequenceAnswer
     ensures { λ r. ⌜ sequenceAnswered r ≡ ownSequence (now (game .entry)) number .answer ⌝ }
 {
-    let checked = game::check(game);
-    let game::GameAnswer::Accepted(header) = checked else {
-        return SequenceAnswer::Refused(game::refusal(checked));
+    let mut numbers = [0u16; Section::NUMBERS];
+    let mut payoffs = [0i16; Section::PAYOFFS];
+    let answer = game::load(game, &mut numbers, &mut payoffs);
+    let LoadAnswer::Loaded(counts) = answer else {
+        return SequenceAnswer::Refused(game::load_refusal(answer));
     };
-    let c17 = checks::in_game(number, header.sets as u64);
+    let c17 = checks::in_game(number, counts.sets as u64);
     let Checked::Fine = c17 else {
         return SequenceAnswer::Refused(checks::number(c17));
     };
-    SequenceAnswer::Sequence(sequences::lookup::own_sequence(
-        game,
-        header.records,
-        header.nodes,
-        header.sets,
-        bits::index(number),
-    ))
+    SequenceAnswer::Sequence(sequences::lookup::own_sequence(&numbers, bits::index(number)))
 }

@@ -20,7 +20,7 @@ use Rattle.model.specs.Table.{standsAt, weightedPayoff}
 use Rattle.model.specs.Earnings.{PureStrategy, listed, consistent, IsPure, leafTerm, pureCount, againstBase, valueBase, valueTerm, valueCount}
 use Rattle.model.specs.BestResponse.{leadsTo, greatestWorth, leavesWorth, worthIn, bestCount, bestResponse}
 use Rattle.model.specs.Verdict.{scaledBest, gain}
-use Rattle.model.specs.Limits.{weightLimit, countLimit}
+use Rattle.model.specs.Limits.{weightLimit, countLimit, GameLimits}
 use Rattle.model.specs.Rules.{GameRules}
 use Rattle.model.proofs.Bits.{field-fits, signed-abs}
 use Rattle.model.proofs.Strategies.{purePlan, pure-fits, pure-prefix}
@@ -28,13 +28,6 @@ use Rattle.model.proofs.BestResponses.{response-pure, response-earns}
 use Rattle.model.proofs.Earnings.{bases-agree, own-prefix}
 use Rattle.model.proofs.Flow.{mass, flow}
 use Rattle.model.proofs.WorthBounds.{leafSize, leafSizes, partial-bound, leaves-bound}
-
--- what the widths of a game's fields allow
-pub record GameLimits (g : Game) : Type 0 where
-  pub nodes : g .nodes ≤ countLimit
-  pub root : g .rootWeight ≤ countLimit
-  pub weights : (n : ℕ) → g .weight n ≤ countLimit
-  pub payoffs : (p : Player) (n : ℕ) → natAbs (g .payoff p n) ≤ 32768
 
 -- a denominator within what contracts allow
 pub record PlanLimits (x : RealizationPlan) : Type 0 where
@@ -45,6 +38,7 @@ pub game-limits : (bytes : List ℕ) → GameLimits (gameOf bytes)
 unfolding gameOf
 game-limits bytes = record {
   nodes = omega (arith, field-fits bytes 4 12);
+  sets = omega (arith, field-fits bytes 16 12);
   root = omega (arith, field-fits bytes 28 12);
   weights = λ n. omega (arith, field-fits bytes (nodeAt bytes n + 20) 12);
   payoffs = λ p n. omega (arith, signed-abs 16 (field bytes (nodeAt bytes n + payoffAt p) 16) (field-fits bytes (nodeAt bytes n + payoffAt p) 16));

@@ -18,7 +18,7 @@ use Rattle.model.specs.Table.{ownNumber}
 use Rattle.model.specs.Rules.{GameRules}
 use Rattle.model.specs.Demand2.{sequencesOf, sequenceAt, IsNumber}
 use Rattle.model.proofs.Sequences.{number-empty, number-extended}
-use Rattle.model.proofs.Tree.{player-refl, IsSequence, empty, after, leading-sequence, parent-in, first-in, first-set, own-sequence, children}
+use Rattle.model.proofs.Tree.{player-refl, IsSequence, empty, after, leading-sequence, own-sequence, TreeRules, tree-rules, tree-parent-in, tree-first-in, tree-first-set, tree-children}
 
 module _ (g : Game) (p : Player) where
   -- the moves of a set of p's come before those of a later set
@@ -99,10 +99,63 @@ module _ (g : Game) (p : Player) where
       ∙ rw own (listTo-at [] (g .setMoves h) (extended (leading g h) h) m b)
 
   -- so does each of p's sequences
-  number-place : (s : Sequence) → IsSequence g p s → sequenceAt g p (sequenceNumber g p s) ≡ s
+  pub number-place : (s : Sequence) → IsSequence g p s → sequenceAt g p (sequenceNumber g p s) ≡ s
   unfolding sequenceAt sequencesOf
   number-place s empty = rw (number-empty g p)
   number-place s (after {h = h} {m = m} l o b) = rw (number-extended g p (leading g h) h m) (move-place h m l o b)
+
+-- each move is one player's
+split-moves : (g : Game) (k : ℕ) → movesBefore g one k + movesBefore g two k ≡ totalTo k (g .setMoves)
+unfolding movesBefore owns
+split-moves g k = count-plus k _ _ ∙ count-cong k _ _ (λ h l. go (g .setPlayer h) (g .setMoves h))
+  where
+    go : (r : Player) (m : ℕ) → cond (samePlayer one r) m 0 + cond (samePlayer two r) m 0 ≡ m
+    go one m = omega arith
+    go two m = omega arith
+
+module _ (g : Game) (R : TreeRules g) where
+  -- every node but the root stands at one move
+  nodes-at-moves : totalTo (g .nodes) (nodeMoves g) + 1 ≡ g .nodes
+  nodes-at-moves =
+      let N = g .nodes in
+      let hung = totalTo N (λ c. only (ltb 0 c) 1) in
+      let a : hung ≡ totalTo N (nodeMoves g) =
+      count-key N N (g .parent) (λ c. only (ltb 0 c) 1) (tree-parent-in g R)
+      ∙ count-cong N _ _ (λ n l. count-cong N _ _ (λ c v. only-swap (eqb (g .parent c) n) (ltb 0 c) 1) ∙ tree-children g R n l (λ m. 1) ∙ count-ones (nodeMoves g n)) in
+      let b = count-split N (ltb 0) (λ n. 1) in
+      let c : totalTo N (λ n. only (not (ltb 0 n)) 1) ≡ 1 = count-one N (λ n. only (not (ltb 0 n)) 1) 0 (R .some-node) (λ i l d. cond-no (not (ltb 0 i)) 1 0 (λ t. T-not (ltb 0 i) t (lt→ltb 0 i (omega arith)))) in
+      omega (arith, a, b, c, count-ones N)
+
+  -- at most one set begins at a node
+  sets-at-node : (n : ℕ) → totalTo (g .sets) (λ h. only (eqb (firstNode g h) n) (nodeMoves g n)) ≤ nodeMoves g n
+  sets-at-node n =
+      let f : ℕ → ℕ = λ h. only (eqb (firstNode g h) n) (nodeMoves g n) in
+      elim (decLt (g .nodeSet n) (g .sets)) [
+        | yes l ↦ omega (arith, count-one (g .sets) f (g .nodeSet n) l elsewhere, only-most (eqb (firstNode g (g .nodeSet n)) n) (nodeMoves g n))
+        | no l ↦ omega (arith, count-zero (g .sets) f (λ h v. elsewhere h v (λ e. omega arith)))
+      ]
+    where
+      elsewhere : (h : ℕ) → h < g .sets → ¬ (h ≡ g .nodeSet n) → only (eqb (firstNode g h) n) (nodeMoves g n) ≡ 0
+      elsewhere h v d = cond-no (eqb (firstNode g h) n) (nodeMoves g n) 0 (λ t. d (sym (tree-first-set g R h v .1) ∙ ap (g .nodeSet) (eqb→eq (firstNode g h) n t)))
+
+  -- the moves of all sets together are at most N - 1
+  tree-moves-few : totalTo (g .sets) (g .setMoves) < g .nodes
+  tree-moves-few =
+      let N = g .nodes in
+      let a : totalTo (g .sets) (g .setMoves) ≡ totalTo N (λ n. totalTo (g .sets) (λ h. only (eqb (firstNode g h) n) (nodeMoves g n))) =
+      count-cong (g .sets) _ _ (λ h l. sym (count-pick N (firstNode g h) (nodeMoves g) (tree-first-in g R h l .1) ∙ tree-first-set g R h l .2))
+      ∙ count-swap (g .sets) N (λ h n. only (eqb (firstNode g h) n) (nodeMoves g n)) in
+      omega (arith, a, count-le N _ (nodeMoves g) (λ n l. sets-at-node n), nodes-at-moves)
+
+  -- so a plan has fewer weights than the game has nodes
+  tree-plan-moves-few : movesBefore g one (g .sets) + movesBefore g two (g .sets) < g .nodes
+  tree-plan-moves-few = omega (arith, split-moves g (g .sets), tree-moves-few)
+
+  -- and each player at most as many sequences
+  pub tree-sequences-few : (p : Player) → sequenceCount g p ≤ g .nodes
+  unfolding sequenceCount
+  tree-sequences-few one = omega (arith, tree-plan-moves-few)
+  tree-sequences-few two = omega (arith, tree-plan-moves-few)
 
 module _ (g : Game) (R : GameRules g) where
   -- the number of an own sequence is its place among the player's
@@ -126,54 +179,14 @@ module _ (g : Game) (R : GameRules g) where
       let s = leading-sequence g R p h l (player-refl p) in
       (number-below g p (leading g h) s, number-place g p (leading g h) s)
 
-  -- every node but the root stands at one move
-  nodes-at-moves : totalTo (g .nodes) (nodeMoves g) + 1 ≡ g .nodes
-  nodes-at-moves =
-      let N = g .nodes in
-      let hung = totalTo N (λ c. only (ltb 0 c) 1) in
-      let a : hung ≡ totalTo N (nodeMoves g) =
-      count-key N N (g .parent) (λ c. only (ltb 0 c) 1) (parent-in g R)
-      ∙ count-cong N _ _ (λ n l. count-cong N _ _ (λ c v. only-swap (eqb (g .parent c) n) (ltb 0 c) 1) ∙ children g R n l (λ m. 1) ∙ count-ones (nodeMoves g n)) in
-      let b = count-split N (ltb 0) (λ n. 1) in
-      let c : totalTo N (λ n. only (not (ltb 0 n)) 1) ≡ 1 = count-one N (λ n. only (not (ltb 0 n)) 1) 0 (R .some-node) (λ i l d. cond-no (not (ltb 0 i)) 1 0 (λ t. T-not (ltb 0 i) t (lt→ltb 0 i (omega arith)))) in
-      omega (arith, a, b, c, count-ones N)
-
-  -- at most one set begins at a node
-  sets-at-node : (n : ℕ) → totalTo (g .sets) (λ h. only (eqb (firstNode g h) n) (nodeMoves g n)) ≤ nodeMoves g n
-  sets-at-node n =
-      let f : ℕ → ℕ = λ h. only (eqb (firstNode g h) n) (nodeMoves g n) in
-      elim (decLt (g .nodeSet n) (g .sets)) [
-        | yes l ↦ omega (arith, count-one (g .sets) f (g .nodeSet n) l elsewhere, only-most (eqb (firstNode g (g .nodeSet n)) n) (nodeMoves g n))
-        | no l ↦ omega (arith, count-zero (g .sets) f (λ h v. elsewhere h v (λ e. omega arith)))
-      ]
-    where
-      elsewhere : (h : ℕ) → h < g .sets → ¬ (h ≡ g .nodeSet n) → only (eqb (firstNode g h) n) (nodeMoves g n) ≡ 0
-      elsewhere h v d = cond-no (eqb (firstNode g h) n) (nodeMoves g n) 0 (λ t. d (sym (first-set g R h v .1) ∙ ap (g .nodeSet) (eqb→eq (firstNode g h) n t)))
-
   -- the moves of all sets together are at most N - 1
   pub moves-few : totalTo (g .sets) (g .setMoves) < g .nodes
-  moves-few =
-      let N = g .nodes in
-      let a : totalTo (g .sets) (g .setMoves) ≡ totalTo N (λ n. totalTo (g .sets) (λ h. only (eqb (firstNode g h) n) (nodeMoves g n))) =
-      count-cong (g .sets) _ _ (λ h l. sym (count-pick N (firstNode g h) (nodeMoves g) (first-in g R h l .1) ∙ first-set g R h l .2))
-      ∙ count-swap (g .sets) N (λ h n. only (eqb (firstNode g h) n) (nodeMoves g n)) in
-      omega (arith, a, count-le N _ (nodeMoves g) (λ n l. sets-at-node n), nodes-at-moves)
-
-  -- each move is one player's
-  split-moves : (k : ℕ) → movesBefore g one k + movesBefore g two k ≡ totalTo k (g .setMoves)
-  unfolding movesBefore owns
-  split-moves k = count-plus k _ _ ∙ count-cong k _ _ (λ h l. go (g .setPlayer h) (g .setMoves h))
-    where
-      go : (r : Player) (m : ℕ) → cond (samePlayer one r) m 0 + cond (samePlayer two r) m 0 ≡ m
-      go one m = omega arith
-      go two m = omega arith
+  moves-few = tree-moves-few g (tree-rules R)
 
   -- so a plan has fewer weights than the game has nodes
   pub plan-moves-few : movesBefore g one (g .sets) + movesBefore g two (g .sets) < g .nodes
-  plan-moves-few = omega (arith, split-moves (g .sets), moves-few)
+  plan-moves-few = tree-plan-moves-few g (tree-rules R)
 
   -- and each player at most as many sequences
   pub sequences-few : (p : Player) → sequenceCount g p ≤ g .nodes
-  unfolding sequenceCount
-  sequences-few one = omega (arith, plan-moves-few)
-  sequences-few two = omega (arith, plan-moves-few)
+  sequences-few = tree-sequences-few g (tree-rules R)

@@ -129,16 +129,86 @@ own-step g falls p n l =
     go true w = reverse-cons (g .nodeSet (g .parent (suc n)), g .move (suc n)) w
     go false w = refl
 
+-- The rules from which follows how many nodes and moves there are: those of parents, of moves and of sets without a node.
+pub record TreeRules (g : Game) : Type 0 where
+  pub some-node : 0 < g .nodes
+  pub root-parent : g .parent 0 ≡ 0
+  pub parents : (n : ℕ) → suc n < g .nodes → g .parent (suc n) < suc n
+  pub at-move : (n : ℕ) → suc n < g .nodes → g .move (suc n) < nodeMoves g (g .parent (suc n))
+  pub moves : (n m : ℕ) → n < g .nodes → m < nodeMoves g n → ExactlyOne (IsChildAt g n m)
+  pub set-node : (h : ℕ) → h < g .sets → (n : ℕ) × (n < g .nodes) × T (inSet g h n)
+
+-- they are among the rules of a game
+pub tree-rules : {g : Game} → GameRules g → TreeRules g
+tree-rules R = record {
+  some-node = R .some-node;
+  root-parent = R .root .0;
+  parents = R .parents;
+  at-move = R .at-move;
+  moves = R .moves;
+  set-node = R .set-node;
+}
+
+module _ (g : Game) (R : TreeRules g) where
+  -- the parent of a node is a node
+  pub tree-parent-in : (n : ℕ) → n < g .nodes → g .parent n < g .nodes
+  tree-parent-in zero l = omega (arith, R .root-parent, R .some-node)
+  tree-parent-in (suc n) l = omega (arith, R .parents n l)
+
+  -- a set's first node is one of its nodes
+  pub tree-first-in : (h : ℕ) → h < g .sets → T (inSet g h (firstNode g h)) × (firstNode g h < g .nodes)
+  unfolding firstNode
+  tree-first-in h l = let n = R .set-node h l in firstTo-found (g .nodes) (inSet g h) (n .0) (n .1) (n .2)
+
+  -- the first node of a set has the set's moves
+  pub tree-first-set : (h : ℕ) → h < g .sets → T (isDecision g (firstNode g h)) × (g .nodeSet (firstNode g h) ≡ h) × (nodeMoves g (firstNode g h) ≡ g .setMoves h)
+  unfolding inSet
+  tree-first-set h l =
+      let n = firstNode g h in
+      let a = and-yes (isDecision g n) (eqb (g .nodeSet n) h) (tree-first-in h l .0) in
+      let e = eqb→eq (g .nodeSet n) h (a .1) in
+      (a .0, e, decision-moves g n (a .0) ∙ ap (g .setMoves) e)
+
+  -- the children of n, by their moves: each move has one
+  pub tree-children : (n : ℕ) → n < g .nodes → (f : ℕ → ℕ) → totalTo (g .nodes) (λ c. only (below g n c) (f (g .move c))) ≡ totalTo (nodeMoves g n) f
+  unfolding isChild
+  tree-children n l f =
+      count-cong (g .nodes) _ _ (λ c k. spread c k)
+      ∙ count-swap (g .nodes) (nodeMoves g n) (λ c m. only (isChild g n m c) (f m))
+      ∙ count-cong (nodeMoves g n) _ _ (λ m k. gather m (R .moves n m l k))
+    where
+      in-range : (c : ℕ) → c < g .nodes → T (below g n c) → g .move c < nodeMoves g n
+      in-range zero k t = absurd (omega (arith, below-is g n 0 t .0))
+      in-range (suc c) k t = subst (λ (j : ℕ). g .move (suc c) < nodeMoves g j) (below-is g n (suc c) t .1) (R .at-move c k)
+
+      by-move : (c : ℕ) (b : Bool) → (T b → g .move c < nodeMoves g n) → only b (f (g .move c)) ≡ totalTo (nodeMoves g n) (λ m. only (b && eqb (g .move c) m) (f m))
+      by-move c true h = sym (count-pick (nodeMoves g n) (g .move c) f (h tt))
+      by-move c false h = sym (count-zero (nodeMoves g n) (λ m. 0) (λ i v. refl))
+
+      spread : (c : ℕ) → c < g .nodes → only (below g n c) (f (g .move c)) ≡ totalTo (nodeMoves g n) (λ m. only (isChild g n m c) (f m))
+      spread c k = by-move c (below g n c) (in-range c k)
+
+      stands : (m c : ℕ) → c < g .nodes → T (isChild g n m c) → IsChildAt g n m c
+      stands m c k t =
+          let a = and-yes (below g n c) (eqb (g .move c) m) t in
+          let b = below-is g n c (a .0) in
+          (k, b .0, b .1, eqb→eq (g .move c) m (a .1))
+
+      gather : (m : ℕ) → ExactlyOne (IsChildAt g n m) → totalTo (g .nodes) (λ i. only (isChild g n m i) (f m)) ≡ f m
+      gather m e =
+          let c = e .0 in
+          let s = e .1 in
+          count-one (g .nodes) (λ i. only (isChild g n m i) (f m)) c (s .0) (λ i k d. cond-no (isChild g n m i) (f m) 0 (λ t. d (e .2 i (stands m i k t))))
+          ∙ cond-yes (isChild g n m c) (f m) 0 (yes-and (below g n c) (eqb (g .move c) m) (yes-and (ltb 0 c) (eqb (g .parent c) n) (lt→ltb 0 c (s .1)) (eqb-make (g .parent c) n (s .2))) (eqb-make (g .move c) m (s .3)))
+
 module _ (g : Game) (R : GameRules g) where
   -- the parent of a node is a node
   pub parent-in : (n : ℕ) → n < g .nodes → g .parent n < g .nodes
-  parent-in zero l = omega (arith, R .root .0, R .some-node)
-  parent-in (suc n) l = omega (arith, R .parents n l)
+  parent-in = tree-parent-in g (tree-rules R)
 
   -- a set's first node is one of its nodes
   pub first-in : (h : ℕ) → h < g .sets → T (inSet g h (firstNode g h)) × (firstNode g h < g .nodes)
-  unfolding firstNode
-  first-in h l = let n = R .set-node h l in firstTo-found (g .nodes) (inSet g h) (n .0) (n .1) (n .2)
+  first-in = tree-first-in g (tree-rules R)
 
   -- and no other comes before it
   pub first-least : (h n : ℕ) → n < g .nodes → T (inSet g h n) → firstNode g h ≤ n
@@ -211,12 +281,7 @@ module _ (g : Game) (R : GameRules g) where
 
   -- the first node of a set has the set's moves
   pub first-set : (h : ℕ) → h < g .sets → T (isDecision g (firstNode g h)) × (g .nodeSet (firstNode g h) ≡ h) × (nodeMoves g (firstNode g h) ≡ g .setMoves h)
-  unfolding inSet
-  first-set h l =
-      let n = firstNode g h in
-      let a = and-yes (isDecision g n) (eqb (g .nodeSet n) h) (first-in h l .0) in
-      let e = eqb→eq (g .nodeSet n) h (a .1) in
-      (a .0, e, decision-moves g n (a .0) ∙ ap (g .setMoves) e)
+  first-set = tree-first-set g (tree-rules R)
 
   -- a child has a larger number than its parent
   child-above : (n c : ℕ) → c < g .nodes → 0 < c → g .parent c ≡ n → n < c
@@ -239,32 +304,4 @@ module _ (g : Game) (R : GameRules g) where
 
   -- the children of n, by their moves: each move has one
   pub children : (n : ℕ) → n < g .nodes → (f : ℕ → ℕ) → totalTo (g .nodes) (λ c. only (below g n c) (f (g .move c))) ≡ totalTo (nodeMoves g n) f
-  unfolding isChild
-  children n l f =
-      count-cong (g .nodes) _ _ (λ c k. spread c k)
-      ∙ count-swap (g .nodes) (nodeMoves g n) (λ c m. only (isChild g n m c) (f m))
-      ∙ count-cong (nodeMoves g n) _ _ (λ m k. gather m (R .moves n m l k))
-    where
-      in-range : (c : ℕ) → c < g .nodes → T (below g n c) → g .move c < nodeMoves g n
-      in-range zero k t = absurd (omega (arith, below-is g n 0 t .0))
-      in-range (suc c) k t = subst (λ (j : ℕ). g .move (suc c) < nodeMoves g j) (below-is g n (suc c) t .1) (R .at-move c k)
-
-      by-move : (c : ℕ) (b : Bool) → (T b → g .move c < nodeMoves g n) → only b (f (g .move c)) ≡ totalTo (nodeMoves g n) (λ m. only (b && eqb (g .move c) m) (f m))
-      by-move c true h = sym (count-pick (nodeMoves g n) (g .move c) f (h tt))
-      by-move c false h = sym (count-zero (nodeMoves g n) (λ m. 0) (λ i v. refl))
-
-      spread : (c : ℕ) → c < g .nodes → only (below g n c) (f (g .move c)) ≡ totalTo (nodeMoves g n) (λ m. only (isChild g n m c) (f m))
-      spread c k = by-move c (below g n c) (in-range c k)
-
-      stands : (m c : ℕ) → c < g .nodes → T (isChild g n m c) → IsChildAt g n m c
-      stands m c k t =
-          let a = and-yes (below g n c) (eqb (g .move c) m) t in
-          let b = below-is g n c (a .0) in
-          (k, b .0, b .1, eqb→eq (g .move c) m (a .1))
-
-      gather : (m : ℕ) → ExactlyOne (IsChildAt g n m) → totalTo (g .nodes) (λ i. only (isChild g n m i) (f m)) ≡ f m
-      gather m e =
-          let c = e .0 in
-          let s = e .1 in
-          count-one (g .nodes) (λ i. only (isChild g n m i) (f m)) c (s .0) (λ i k d. cond-no (isChild g n m i) (f m) 0 (λ t. d (e .2 i (stands m i k t))))
-          ∙ cond-yes (isChild g n m c) (f m) 0 (yes-and (below g n c) (eqb (g .move c) m) (yes-and (ltb 0 c) (eqb (g .parent c) n) (lt→ltb 0 c (s .1)) (eqb-make (g .parent c) n (s .2))) (eqb-make (g .move c) m (s .3)))
+  children = tree-children g (tree-rules R)

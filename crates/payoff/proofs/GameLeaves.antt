@@ -1,27 +1,80 @@
--- A game's leaves are ready for its payoff table, and the table over them is the game's, for numbers that are its counts of sequences.
-use Prim.Native.Nat.{ℕ, _*_, _<_}
-use mathlib.Core.Path.{_≡_}
+-- The leaves of a loaded game can be sorted by their pairs of sequences, and the rows from them are the game's payoff table.
+use Prim.Native.Nat.{ℕ, _-_, _*_, _<_}
+use mathlib.Core.Path.{_≡_, ap}
 use mathlib.Core.List.{List}
+use native.Mathlib.Omega.{arith}
 use lib.IntN.{ℤ}
-use lib.ListN.{length}
+use lib.ListN.{length, take, drop, length-drop}
+use lib.Seq.{take-all}
 use Rattle.algebra.specs.Arrays.{item}
-use Rattle.model.specs.Game.{Game, one, two}
+use Rattle.algebra.specs.Sections.{section}
+use Rattle.model.specs.Game.{Game, Player, one, two}
 use Rattle.model.specs.Sequences.{sequenceCount}
-use Rattle.model.specs.Table.{payoffTable}
-use Rattle.model.specs.Rules.{GameRules}
-use Rattle.model.proofs.Budget.{GameLimits}
-use Rattle.gather.specs.Leaves.{Gathered}
-use Rattle.payoff.specs.Table.{pairKey, Rows, leaves, TableLaid, Tabular}
+use Rattle.model.specs.Table.{ownNumber, payoffTable}
+use Rattle.model.proofs.Numbers.{sequences-few}
+use Rattle.loaded.specs.Sections.{leafSection, payoffSection}
+use Rattle.loaded.specs.Leaves.{leavesOf, Column}
+use Rattle.loaded.specs.Counts.{countsOf}
+use Rattle.loaded.specs.Loaded.{NumbersLoaded, Loaded}
+use Rattle.loaded.specs.declared.Counts.{Counts}
+use Rattle.loaded.proofs.Gathered.{all-few}
+use Rattle.loaded.proofs.LeafColumns.{column-below}
+use Rattle.loaded.proofs.Views.{column-in, leaves-counted, gathered-in}
+use Rattle.payoff.specs.Table.{Keyed, Sortable, pairKey, Rows, RowReady, TableLaid}
+use Rattle.payoff.specs.Layout.{leavesIn, SequenceReady, SumReady}
 use Rattle.payoff.proofs.PayoffTables.{table-laid}
-use Rattle.payoff.proofs.GameTables.{tabular, table-rows}
+use Rattle.payoff.proofs.GameTables.{addable, table-rows}
 
-module _ (g : Game) {count : ℕ} {first second chance : List ℕ} {payoffs1 payoffs2 : List ℤ} (L : Gathered g count first second chance payoffs1 payoffs2) {sequences1 sequences2 : ℕ} (a : sequences1 ≡ sequenceCount g one) (b : sequences2 ≡ sequenceCount g two) where
-  -- what `rows` requires of the slices holds
-  pub leaves-tabular : GameRules g → GameLimits g → Tabular count sequences1 sequences2 first second chance payoffs1 payoffs2
-  leaves-tabular R M = rw (a, b) (tabular g L R M)
+-- all of a list from a place on
+pub part-from : (from : ℕ) (l : List ℕ) → take (length l - from) (drop from l) ≡ section from l
+part-from from l = take-all (length l - from) (drop from l) (omega (arith, length-drop from l))
 
-  -- the rows from them are the game's table
-  pub leaves-table : GameRules g → GameLimits g → {rows : ℕ} {sorted bounds : List ℕ} → Rows (pairKey sequences2 (item first) (item second)) count (sequences1 * sequences2) rows sorted bounds → count < length bounds → TableLaid (payoffTable g) rows (leaves first second chance payoffs1 payoffs2 sorted bounds)
-  leaves-table R M rows few =
-      let t = leaves-tabular R M in
-      table-rows g L (rw (a, b) at (table-laid first second count sequences1 sequences2 (t .first-keyed) (t .second-keyed) rows few chance payoffs1 payoffs2 (t .addable1) (t .addable2)))
+module _ {g : Game} {c : Counts} {numbers : List ℕ} (N : NumbersLoaded g c numbers) where
+  counted1 : c .sequences1 ≡ sequenceCount g one
+  unfolding countsOf
+  counted1 = ap (λ (c : Counts). c .sequences1) (N .counts-are)
+
+  counted2 : c .sequences2 ≡ sequenceCount g two
+  unfolding countsOf
+  counted2 = ap (λ (c : Counts). c .sequences2) (N .counts-are)
+
+  leaves-are : c .leaves ≡ length (leavesOf g)
+  leaves-are = leaves-counted g (N .counts-are)
+
+  -- a player's sequence numbers are keys
+  keyed : (p : Player) → Keyed (section (leafSection p) numbers) (c .leaves) (sequenceCount g p)
+  keyed p =
+      let column : Column g (ownNumber g p) (section (leafSection p) numbers) = column-in (N .leaves p) in
+      record { long = omega (arith, leaves-are, column .long); below = λ k v. column-below g (N .rules) p column k (omega (arith, leaves-are)) }
+
+  -- what `rows` requires
+  pub numbers-sortable : Sortable (c .leaves) (c .sequences1) (c .sequences2) (section (leafSection one) numbers) (section (leafSection two) numbers)
+  numbers-sortable = record {
+    first-keyed = rw counted1 (keyed one);
+    second-keyed = rw counted2 (keyed two);
+    few-leaves = omega (arith, leaves-are, all-few g, N .limits .nodes);
+    few1 = omega (arith, counted1, sequences-few g (N .rules) one, N .limits .nodes);
+    few2 = omega (arith, counted2, sequences-few g (N .rules) two, N .limits .nodes);
+  }
+
+-- the rows from them are the game's table
+pub rows-are-table : {g : Game} {c : Counts} {numbers : List ℕ} {payoffs : List ℤ} → Loaded g c numbers payoffs → {rows : ℕ} {sorted bounds : List ℕ} → Rows (pairKey (c .sequences2) (item (section (leafSection one) numbers)) (item (section (leafSection two) numbers))) (c .leaves) (c .sequences1 * c .sequences2) rows sorted bounds → c .leaves < length bounds → TableLaid (payoffTable g) rows (leavesIn numbers payoffs sorted bounds)
+rows-are-table {g} {c} L rows few =
+    let N = L .in-numbers in
+    let S = numbers-sortable N in
+    let G = gathered-in L in
+    table-rows g G (rw (counted1 N, counted2 N) at (table-laid _ _ (c .leaves) (c .sequences1) (c .sequences2) (S .first-keyed) (S .second-keyed) rows few _ _ _ (addable g G (N .limits) one) (addable g G (N .limits) two)))
+
+-- What each number of a row needs of the sections.
+module _ {numbers : List ℕ} {payoffs : List ℤ} {sorted bounds : List ℕ} {k : ℕ} (R : RowReady (leavesIn numbers payoffs sorted bounds) k) where
+  pub sequence1-ready : SequenceReady (leafSection one) numbers sorted bounds k
+  sequence1-ready = record { bound-in = omega (arith, R .bounds-long); begins = R .begins; leaf-in = R .in-first }
+
+  pub sequence2-ready : SequenceReady (leafSection two) numbers sorted bounds k
+  sequence2-ready = record { bound-in = omega (arith, R .bounds-long); begins = R .begins; leaf-in = R .in-second }
+
+  pub sum1-ready : SumReady (payoffSection one) numbers payoffs sorted bounds k
+  sum1-ready = record { bounds-long = R .bounds-long; summable = R .sum1 }
+
+  pub sum2-ready : SumReady (payoffSection two) numbers payoffs sorted bounds k
+  sum2-ready = record { bounds-long = R .bounds-long; summable = R .sum2 }

@@ -14,17 +14,18 @@ use Rattle.algebra.proofs.Lists.{joinTo-cong}
 use Rattle.algebra.proofs.Searches.{anyTo-find, anyTo-make}
 use Rattle.algebra.proofs.Sums.{onlyZ, onlyZ-and, sum-cong, whereZ-is}
 use Rattle.algebra.proofs.Elements.{Every, every-where, every-join, Among, among-where, among-join}
+use Rattle.model.specs.Limits.{GameLimits}
 use Rattle.model.specs.Game.{Game, Player, one, two, isLeaf}
 use Rattle.model.specs.Sequences.{sequenceCount}
 use Rattle.model.specs.Table.{ownNumber, standsAt, pairSum, rowAt, rowsAt, payoffTable, weightedPayoff}
 use Rattle.model.specs.Rules.{GameRules}
-use Rattle.model.proofs.Budget.{GameLimits, table-fits}
+use Rattle.model.proofs.Budget.{table-fits}
 use Rattle.model.proofs.Numbers.{own-number-below, sequences-few}
-use Rattle.gather.specs.Leaves.{leafAt, leavesBelow, leavesOf, leafOf, Column, Gathered}
-use Rattle.payoff.specs.Table.{Keyed, weighedAt, standsBy, pairSumBy, rowOf, rowsBy, tableBy, Leaves, TableLaid, Addable, Tabular}
-use Rattle.gather.proofs.Gathered.{all-few}
-use Rattle.gather.proofs.LeafSums.{leaves-sum, leaves-prefix, leaf-in}
-use Rattle.gather.proofs.LeafColumns.{player-leaves, ofPlayer}
+use Rattle.loaded.specs.Leaves.{leafAt, leavesBelow, leavesOf, leafOf, Column, Gathered}
+use Rattle.payoff.specs.Table.{Keyed, weighedAt, standsBy, pairSumBy, rowOf, rowsBy, tableBy, Leaves, TableLaid, Addable}
+use Rattle.loaded.proofs.Gathered.{all-few}
+use Rattle.loaded.proofs.LeafSums.{leaves-sum, leaves-prefix, leaf-in}
+use Rattle.loaded.proofs.LeafColumns.{player-leaves, ofPlayer}
 
 module _ (g : Game) where
   -- the leaves are leaves
@@ -110,31 +111,11 @@ module _ (g : Game) where
     table-is = joinTo-cong (sequenceCount g one) _ _ (λ s l. joinTo-cong (sequenceCount g two) _ _ (λ t v. rw (any-is s t, sum-is one s t, sum-is two s t)))
 
     -- no partial sum leaves its range
-    addable : GameLimits g → (p : Player) → Addable count first second chance (ofPlayer p payoffs1 payoffs2)
+    pub addable : GameLimits g → (p : Player) → Addable count first second chance (ofPlayer p payoffs1 payoffs2)
     addable M p = record {
       chance-long = omega (arith, L .counted, L .chance-is .long);
       payoffs-long = omega (arith, L .counted, payoff-is p .long);
-      chance-small = λ k l. rw (L .chance-is .at 0 k (omega (arith, L .counted))) (M .weights (leafOf g k));
       fit = λ n s t l. let r = leaves-prefix g (counts p s t) n (omega (arith, L .counted)) in rw (prefix-is p s t n l, r .2, leaves-at p s t (r .0)) (table-fits g M p s t (r .0) (r .1));
-    }
-
-    -- a player's sequence numbers are keys
-    column-keyed : GameRules g → (p : Player) {l : List ℕ} → Column g (ownNumber g p) l → Keyed l count (sequenceCount g p)
-    column-keyed R p C = record {
-      long = omega (arith, L .counted, C .long);
-      below = λ k v. rw (C .at 0 k (omega (arith, L .counted))) (own-number-below g R p (leafOf g k) (leaf-in g k (omega (arith, L .counted))));
-    }
-
-    -- what `rows` requires of the slices holds
-    pub tabular : GameRules g → GameLimits g → Tabular count (sequenceCount g one) (sequenceCount g two) first second chance payoffs1 payoffs2
-    tabular R M = record {
-      first-keyed = column-keyed R one (L .first-is);
-      second-keyed = column-keyed R two (L .second-is);
-      few-leaves = omega (arith, L .counted, all-few g, M .nodes);
-      few1 = omega (arith, sequences-few g R one, M .nodes);
-      few2 = omega (arith, sequences-few g R two, M .nodes);
-      addable1 = addable M one;
-      addable2 = addable M two;
     }
 
     -- the rows from them are the game's table

@@ -1,48 +1,60 @@
-// A game's leaves in the order of its payoff table.
+// A loaded game's leaves in the order of its payoff table, and its rows from them.
 ghost use mathlib.Core.Path.{_≡_};
-ghost use Prim.Native.Nat.{_≤_, _^_};
-ghost use lib.ListN.{length};
-ghost use Rattle.model.specs.Limits.{countLimit};
-ghost use Rattle.model.specs.Game.{gameOf};
+ghost use mathlib.Core.List.{List};
+ghost use lib.IntN.{ℤ};
+ghost use Rattle.model.specs.Game.{Game};
 ghost use Rattle.model.specs.Table.{payoffTable};
-ghost use Rattle.model.specs.Rules.{GameRules};
-ghost use Rattle.records.specs.Records.{headerOf};
-ghost use Rattle.payoff.specs.Table.{leaves, TableLaid};
+ghost use Rattle.loaded.specs.Loaded.{Loaded};
+ghost use Rattle.payoff.specs.Table.{TableLaid};
+ghost use Rattle.payoff.specs.Layout.{leavesIn, LayoutAsked, sequenceAt, SequenceReady, sumAt, SumReady};
 use super::grouping;
-use records::Header;
-use records::NodeRecord;
+use loaded::Counts;
+use loaded::Section;
+use slices::item;
 
-// Of an accepted game: its leaves, their order in the payoff table, and where each row begins in it; how many rows there are.
-pub fn lay_out(
-    game: &[u8],
-    header: Header,
-    first: &mut [usize],
-    second: &mut [usize],
-    chance: &mut [u64],
-    payoffs1: &mut [i16],
-    payoffs2: &mut [i16],
-    sorted: &mut [usize],
-    bounds: &mut [usize],
-) -> usize
-    requires { ⌜ (header ≡ headerOf (now game)) × GameRules (gameOf (now game)) × (countLimit ≤ length (now first)) × (countLimit ≤ length (now second)) × (countLimit ≤ length (now chance)) × (countLimit ≤ length (now payoffs1)) × (countLimit ≤ length (now payoffs2)) × (countLimit ≤ length (now sorted)) × (2 ^ 12 ≤ length (now bounds)) ⌝ }
-    ensures { λ r. ⌜ TableLaid (payoffTable (gameOf (now (game .entry)))) r (leaves (now (first .exit)) (now (second .exit)) (now (chance .exit)) (now (payoffs1 .exit)) (now (payoffs2 .exit)) (now (sorted .exit)) (now (bounds .exit))) ⌝ }
+// The order of the leaves in the payoff table, and where each row begins in it; how many rows there are.
+pub fn lay_out(numbers: &[u16], counts: Counts, sorted: &mut [u16], bounds: &mut [u16]) -> usize
+    requires { ⌜ LayoutAsked counts (now numbers) (now sorted) (now bounds) ⌝ }
+    ensures { λ r. ⌜ ((g : Game) (payoffs : List ℤ) → Loaded g counts (now (numbers .entry)) payoffs → TableLaid (payoffTable g) r (leavesIn (now (numbers .entry)) payoffs (now (sorted .exit)) (now (bounds .exit)))) ⌝ }
 {
-    let mut starts = [0u64; NodeRecord::NODES];
-    let mut own1 = [0u64; NodeRecord::NODES];
-    let mut own2 = [0u64; NodeRecord::NODES];
-    let counts = gather::numbers::own_numbers(game, header, &mut starts, &mut own1, &mut own2);
-    let sequences1 = bits::index(counts.first);
-    let sequences2 = bits::index(counts.second);
-    let count = gather::leaves::gather(
-        game,
-        header,
-        &own1,
-        &own2,
+    let leaves = counts.leaves;
+    let sequences1 = counts.sequences1;
+    let sequences2 = counts.sequences2;
+    let first = &numbers[Section::LEAF1..];
+    let second = &numbers[Section::LEAF2..];
+    grouping::rows(
+        leaves,
+        sequences1,
+        sequences2,
         first,
         second,
-        chance,
-        payoffs1,
-        payoffs2,
-    );
-    grouping::rows(count, sequences1, sequences2, first, second, sorted, bounds)
+        sorted,
+        bounds,
+    )
+}
+
+// The number of a player's sequence at row `k`, where by leaf his numbers stand from `from` on: that of the row's first leaf.
+pub fn row_sequence(numbers: &[u16], from: usize, sorted: &[u16], bounds: &[u16], k: usize) -> usize
+    requires { ⌜ SequenceReady from (now numbers) (now sorted) (now bounds) k ⌝ }
+    ensures { λ r. ⌜ r ≡ sequenceAt from (now (numbers .entry)) (now (sorted .entry)) (now (bounds .entry)) k ⌝ }
+{
+    let leaf = item(sorted, item(bounds, k));
+    loaded::number(numbers, from, leaf)
+}
+
+// A player's sum at row `k`, where by leaf his payoffs stand from `from` on.
+pub fn row_sum(
+    numbers: &[u16],
+    payoffs: &[i16],
+    from: usize,
+    sorted: &[u16],
+    bounds: &[u16],
+    k: usize,
+) -> i64
+    requires { ⌜ SumReady from (now numbers) (now payoffs) (now sorted) (now bounds) k ⌝ }
+    ensures { λ r. ⌜ r ≡ sumAt from (now (numbers .entry)) (now (payoffs .entry)) (now (sorted .entry)) (now (bounds .entry)) k ⌝ }
+{
+    let start = item(bounds, k);
+    let end = item(bounds, k + 1);
+    grouping::leaf_sum(numbers, payoffs, from, sorted, start, end)
 }

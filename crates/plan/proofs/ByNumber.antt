@@ -2,17 +2,15 @@
 use Prim.Native.Nat.{ℕ, zero, suc, _+_, _*_, _≤_, _<_}
 use mathlib.Core.Path.{_≡_, refl, sym, ap, _∙_}
 use mathlib.Core.Bool.{Bool, true, false}
-use mathlib.Core.List.{List, [], _∷_}
+use mathlib.Core.List.{List}
 use native.Mathlib.Omega.{arith}
-use lib.ListN.{length}
 use lib.Dec.{T, eqb}
 use Rattle.algebra.specs.Bounded.{implies}
 use Rattle.algebra.specs.Arrays.{item, Holds, over}
 use Rattle.algebra.proofs.Totals.{count-cong}
 use Rattle.algebra.proofs.Searches.{allTo-cong}
-use Rattle.algebra.proofs.Fillings.{filled}
 use Rattle.model.specs.Game.{Game, Player, one, two, owns, movesBefore}
-use Rattle.model.specs.Sequences.{Move, Sequence, byLastMove, leading, moveNumber, sequenceNumber, sequenceCount}
+use Rattle.model.specs.Sequences.{Sequence, leading, moveNumber, sequenceNumber, sequenceCount}
 use Rattle.model.specs.Plan.{sequenceWeight, balanced, fits, pairFits, weightsBefore, weightPlace, weightBit, planPairOf}
 use Rattle.model.specs.Rules.{GameRules}
 use Rattle.model.specs.Limits.{weightLimit}
@@ -22,16 +20,9 @@ use Rattle.model.proofs.Numbers.{moves-block, number-below}
 use Rattle.model.proofs.Tree.{leading-sequence}
 use Rattle.checks.specs.declared.Checked.{Checked}
 use Rattle.checks.specs.Checked.{checkedOf}
-use Rattle.plan.specs.Weights.{weightsFrom, weightByNumber, planByNumber, pairByNumber, Weights}
-
--- the weight of a sequence, in a plan whose weights go by number, is that of its number
-pub weight-at : (g : Game) (p : Player) (x : ℕ → ℕ) (s : Sequence) → sequenceWeight (planByNumber g p x) s ≡ x (sequenceNumber g p s)
-unfolding sequenceWeight sequenceNumber planByNumber byLastMove
-weight-at g p x s = go 0 s
-  where
-    go : (n : ℕ) (s : Sequence) → byLastMove (x n) (λ (last : Move). x (moveNumber g p (last .0, last .1))) s ≡ x (byLastMove n (moveNumber g p) s)
-    go n [] = refl
-    go n (a ∷ s) = go (moveNumber g p a) s
+use Rattle.loaded.proofs.Weights.{weight-at}
+use Rattle.plan.specs.Weights.{weightsFrom, weightByNumber}
+use Rattle.loaded.specs.Weights.{planByNumber, pairByNumber}
 
 module _ (g : Game) (plan : List ℕ) (p : Player) where
   -- the plan that the file gives p has the file's weights by number
@@ -58,10 +49,6 @@ module _ (g : Game) (plan : List ℕ) (p : Player) where
   unfolding weightByNumber weightsFrom
   small-number zero = plan-limits g plan p .denominator
   small-number (suc k) = omega (arith, field-fits plan (32 + 12 * (weightsBefore g p + k)) 12)
-
-  -- an array that is filled with them
-  pub filled-weights : {x : List ℕ} (l : List ℕ) → x ≡ over (weightByNumber g plan p) (sequenceCount g p) l → sequenceCount g p ≤ length l → Weights g p x
-  filled-weights l e b = let held = filled l e b in record { long = held .long; small = λ i v. rw (held .at i v) (small-number i) }
 
 -- A plan whose weights by number are an array's, and one whose weights are those that the array holds.
 module _ (g : Game) (rules : GameRules g) (p : Player) (f : ℕ → ℕ) {x : List ℕ} (held : Holds f (sequenceCount g p) x) where

@@ -1,20 +1,23 @@
 -- Checks 14 and 15 by the number of moves and by a header that was read.
-use Prim.Native.Nat.{ℕ, _+_, _*_, _-_, _/_}
+use Prim.Native.Nat.{ℕ, _+_, _*_, _-_, _/_, _≤_}
 use mathlib.Core.Path.{_≡_, refl, _∙_}
 use mathlib.Core.Bool.{Bool, true, false, _&&_}
 use mathlib.Core.List.{List}
+use native.Mathlib.Omega.{arith}
 use lib.ListN.{length}
 use lib.Dec.{T, eqb}
 use borrow.Author.Tests.{ne-eqb}
 use Rattle.model.specs.Bits.{field}
+use Rattle.model.specs.Limits.{weightLimit}
 use Rattle.model.specs.Game.{Game, one, two}
 use Rattle.model.specs.Plan.{planMoves, weightBit, planPairOf}
 use Rattle.model.specs.PlanChecks.{planLength, planHasLength, filling, planWellFormed}
+use Rattle.model.proofs.Bits.{field-fits}
 use Rattle.model.proofs.PlanRules.{plan-length-iff}
 use Rattle.checks.specs.declared.Checked.the-variants.{Fine, Broken}
 use Rattle.checks.specs.Checked.{checkedOf}
 use Rattle.checks.proofs.Chains.{is-fine, is-broken}
-use Rattle.records.specs.declared.plan.PlanHeader.{PlanHeader}
+use Rattle.records.specs.declared.plan_file.PlanHeader.{PlanHeader}
 use Rattle.records.specs.PlanRecords.{denominatorsOf, planHeaderOf}
 use Rattle.plan.specs.Header.{headerRight}
 
@@ -62,3 +65,8 @@ header-d2 g plan h e = rw e
 pub header-denominators : (plan : List ℕ) (h : PlanHeader) → h ≡ planHeaderOf plan → h .denominators ≡ denominatorsOf plan
 unfolding planHeaderOf
 header-denominators plan h e = rw e
+
+-- and have 12 bits each
+pub header-small : (plan : List ℕ) (h : PlanHeader) → h ≡ planHeaderOf plan → (h .denominators .d1 ≤ weightLimit) × (h .denominators .d2 ≤ weightLimit)
+unfolding planHeaderOf denominatorsOf
+header-small plan h e = rw e (omega (arith, field-fits plan 4 12), omega (arith, field-fits plan 16 12))

@@ -23,24 +23,22 @@ use Rattle.model.specs.PlanChecks.{Files, files}
 use Rattle.model.specs.Rows.{of, refusal}
 use Rattle.model.proofs.Rows.{named-of, refusal-below}
 use Rattle.checks.proofs.Chains.{after, refusal-of}
-use Rattle.records.specs.declared.game.Header.{Header}
-use Rattle.sequences.specs.declared.SequenceCounts.{SequenceCounts}
+use Rattle.loaded.specs.declared.Counts.{Counts}
+use Rattle.loaded.specs.Counts.{countsOf}
 use Rattle.model.proofs.Checks.{game-named, game-rules}
 use Rattle.model.proofs.Budget.{game-limits}
 use Rattle.model.proofs.Numbers.{sequences-few}
-use Rattle.records.specs.Records.{headerOf}
-use Rattle.sequences.specs.Sets.{countsOf}
-use Rattle.game.proofs.Refusals.{RefusedWith}
-use Rattle.records.specs.declared.plan.Denominators.{Denominators}
+use Rattle.records.specs.declared.plan_file.Denominators.{Denominators}
 use Rattle.plan.specs.declared.PairHeader.{PairHeader}
 use Rattle.plan.specs.declared.PlanAnswer.{PlanAnswer}
 use Rattle.plan.specs.declared.PlanAnswer.the-variants as Plan
 use Rattle.plan.specs.declared.PairAnswer.{PairAnswer}
 use Rattle.plan.specs.declared.PairAnswer.the-variants as Pair
 use Rattle.records.specs.PlanRecords.{denominatorsOf}
+use Rattle.plan.specs.Loaded.{SequencesCounted}
 use Rattle.plan.specs.Weights.{weightsFrom, weightByNumber}
 use Rattle.plan.specs.Refusals.{planRefusal, planAnswer, pairAnswer, planRefusalOf, pairRefusalOf, weightsAfter, inFileOrder}
-use Rattle.plan.proofs.Refusals.{some-sequence, room}
+use Rattle.plan.proofs.Refusals.{Counted, counted, few-sequences, room}
 
 module _ (game plan : List ℕ) where
   -- the game's refusal, and where it has none, the plan's
@@ -51,36 +49,33 @@ module _ (game plan : List ℕ) where
       after (of part gameRows) planRows (files game plan) (named-of part gameRows game-named) (refusal gameRows game) (refusal-of part gameRows (files game plan))
 
   -- a game that is refused
-  pub game-refused : {r : ℕ} → RefusedWith game r → pairRefusal game plan ≡ r
-  game-refused s = joined ∙ rw (ne-eqb (gameRefusal game) 0 (λ e. s .some (s .number ∙ e))) (sym (s .number))
+  pub game-refused : {r : ℕ} → r ≡ gameRefusal game → ¬ (r ≡ 0) → pairRefusal game plan ≡ r
+  game-refused e s = joined ∙ rw (ne-eqb (gameRefusal game) 0 (λ z. s (e ∙ z))) (sym e)
 
   -- its number is none of a plan's, so the arrays are left
-  pub game-early : {r : ℕ} → RefusedWith game r → (eqb r 0 || eqb r 16) ≡ false
+  pub game-early : {r : ℕ} → r ≡ gameRefusal game → ¬ (r ≡ 0) → (eqb r 0 || eqb r 16) ≡ false
   unfolding gameRefusal gameRows headerRows recordRows treeRows
-  game-early {r} s =
-      let low : r < 14 = omega (arith, s .number, refusal-below gameRows game 14 (omega arith) tt) in
-      rw (ne-eqb r 0 (s .some), ne-eqb r 16 (λ e. omega arith))
+  game-early {r} e s =
+      let low : r < 14 = omega (arith, e, refusal-below gameRows game 14 (omega arith) tt) in
+      rw (ne-eqb r 0 s, ne-eqb r 16 (λ e. omega arith))
 
   -- one that is accepted
   pub plan-decides : gameRefusal game ≡ 0 → pairRefusal game plan ≡ planRefusal game plan
   plan-decides e = joined ∙ rw e
 
   -- a plan that fits an accepted game
-  pub pair-fits-as : {a : PlanAnswer} {h : Header} {d : Denominators} {n : SequenceCounts} → gameRefusal game ≡ 0 → h ≡ headerOf game → a ≡ planAnswer (planRefusal game plan) game plan → a ≡ Plan.Fits d n → Pair.Fits (record { header = h; denominators = d; counts = n }) ≡ pairAnswer (pairRefusal game plan) game plan
-  pair-fits-as {h = h} {d} {n} none head e f = rw (plan-decides none) (go (planRefusal game plan) (sym f ∙ e))
+  pub pair-fits-as : {a : PlanAnswer} {c : Counts} {d : Denominators} → gameRefusal game ≡ 0 → c ≡ countsOf (gameOf game) → a ≡ planAnswer (planRefusal game plan) plan → a ≡ Plan.Fits d → Pair.Fits (record { counts = c; denominators = d }) ≡ pairAnswer (pairRefusal game plan) game plan
+  pair-fits-as {c = c} {d} none are e f = rw (plan-decides none) (go (planRefusal game plan) (sym f ∙ e))
     where
-      go : (k : ℕ) → Plan.Fits d n ≡ planAnswer k game plan → Pair.Fits (record { header = h; denominators = d; counts = n }) ≡ pairAnswer k game plan
-      go zero e =
-          let same : d ≡ denominatorsOf plan = cc in
-          let counted : n ≡ countsOf (gameOf game) = cc in
-          λ i. Pair.Fits (record { header = head i; denominators = same i; counts = counted i })
+      go : (k : ℕ) → Plan.Fits d ≡ planAnswer k plan → Pair.Fits (record { counts = c; denominators = d }) ≡ pairAnswer k game plan
+      go zero e = let same : d ≡ denominatorsOf plan = cc in λ i. Pair.Fits (record { counts = are i; denominators = same i })
       go (suc j) e = let z : _≡_ {A = ℕ} 0 1 = cc in absurd (omega arith)
 
   -- the number of a plan's refusal
-  pub plan-refused-with : {a : PlanAnswer} {k r : ℕ} → a ≡ planAnswer (planRefusal game plan) game plan → a ≡ Plan.Refused k → r ≡ planRefusalOf a → (r ≡ planRefusal game plan) × ¬ (r ≡ 0)
+  pub plan-refused-with : {a : PlanAnswer} {k r : ℕ} → a ≡ planAnswer (planRefusal game plan) plan → a ≡ Plan.Refused k → r ≡ planRefusalOf a → (r ≡ planRefusal game plan) × ¬ (r ≡ 0)
   plan-refused-with {a} {k} {r} e f g = go (planRefusal game plan) refl (sym f ∙ e)
     where
-      go : (n : ℕ) → planRefusal game plan ≡ n → Plan.Refused k ≡ planAnswer n game plan → (r ≡ planRefusal game plan) × ¬ (r ≡ 0)
+      go : (n : ℕ) → planRefusal game plan ≡ n → Plan.Refused k ≡ planAnswer n plan → (r ≡ planRefusal game plan) × ¬ (r ≡ 0)
       go zero m e = let z : _≡_ {A = ℕ} 0 1 = cc in absurd (omega arith)
       go (suc n) m e =
           let same : k ≡ suc n = cc in
@@ -91,26 +86,24 @@ module _ (game plan : List ℕ) where
   pub record PairOpened (h : PairHeader) : Type 0 where
     pub none : pairRefusal game plan ≡ 0
     pub game-none : gameRefusal game ≡ 0
-    pub header : h .header ≡ headerOf game
-    pub denominators : h .denominators ≡ denominatorsOf plan
     pub counts : h .counts ≡ countsOf (gameOf game)
+    pub denominators : h .denominators ≡ denominatorsOf plan
 
   pub pair-opened : {a : PairAnswer} {h : PairHeader} → a ≡ pairAnswer (pairRefusal game plan) game plan → a ≡ Pair.Fits h → PairOpened h
   pair-opened {a} {h} e f = go (pairRefusal game plan) refl (sym f ∙ e)
     where
-      game-too : (k : ℕ) → gameRefusal game ≡ k → pairRefusal game plan ≡ 0 → k ≡ 0
+      game-too : (k : ℕ) → k ≡ gameRefusal game → pairRefusal game plan ≡ 0 → k ≡ 0
       game-too zero m e = refl
-      game-too (suc k) m e = absurd (omega (arith, sym (game-refused (record { number = sym m; some = λ z. omega arith })) ∙ e))
+      game-too (suc k) m e = absurd (omega (arith, sym (game-refused m (λ z. omega arith)) ∙ e))
 
       go : (k : ℕ) → pairRefusal game plan ≡ k → Pair.Fits h ≡ pairAnswer k game plan → PairOpened h
       go zero k e =
-          let same : h ≡ record { header = headerOf game; denominators = denominatorsOf plan; counts = countsOf (gameOf game) } = cc in
+          let same : h ≡ record { counts = countsOf (gameOf game); denominators = denominatorsOf plan } = cc in
           record {
             none = k;
             game-none = game-too (gameRefusal game) refl k;
-            header = ap (λ (x : PairHeader). x .header) same;
-            denominators = ap (λ (x : PairHeader). x .denominators) same;
             counts = ap (λ (x : PairHeader). x .counts) same;
+            denominators = ap (λ (x : PairHeader). x .denominators) same;
           }
       go (suc n) k e = let z : _≡_ {A = ℕ} 0 1 = cc in absurd (omega arith)
 
@@ -131,33 +124,15 @@ pair-over game plan o p l e = rw (o .none) at e
 
 -- and hold its weights
 pub pair-holds : (game plan : List ℕ) {h : PairHeader} → PairOpened game plan h → (p : Player) {x : List ℕ} (l : List ℕ) → x ≡ weightsAfter (pairRefusal game plan) game plan p l → countLimit ≤ length l → Holds (weightByNumber (gameOf game) plan p) (sequenceCount (gameOf game) p) x
-pair-holds game plan o p l e b = filled l (pair-over game plan o p l e) (room game (game-rules game (o .game-none)) p l b)
+pair-holds game plan o p l e b = filled l (pair-over game plan o p l e) (room (game-rules game (o .game-none)) (game-limits game) p l b)
 
 -- how many sequences each player has
-pub record PairCounted (game : List ℕ) (n : SequenceCounts) : Type 0 where
-  pub some1 : 1 ≤ n .first
-  pub some2 : 1 ≤ n .second
-  pub few1 : n .first ≤ countLimit
-  pub few2 : n .second ≤ countLimit
-  pub is1 : n .first ≡ sequenceCount (gameOf game) one
-  pub is2 : n .second ≡ sequenceCount (gameOf game) two
+pub pair-counted : (game plan : List ℕ) {h : PairHeader} → PairOpened game plan h → Counted (gameOf game) (h .counts)
+pair-counted game plan o = counted (o .counts)
 
-pub pair-counted : (game plan : List ℕ) {h : PairHeader} → PairOpened game plan h → PairCounted game (h .counts)
-unfolding countsOf
-pair-counted game plan o =
-    let g = gameOf game in
-    let rules = game-rules game (o .game-none) in
-    let nodes = game-limits game .nodes in
-    let first = ap (λ (n : SequenceCounts). n .first) (o .counts) in
-    let second = ap (λ (n : SequenceCounts). n .second) (o .counts) in
-    record {
-      some1 = omega (arith, first, some-sequence g one);
-      some2 = omega (arith, second, some-sequence g two);
-      few1 = omega (arith, first, sequences-few g rules one, nodes);
-      few2 = omega (arith, second, sequences-few g rules two, nodes);
-      is1 = first;
-      is2 = second;
-    }
+-- and that they are few
+pub pair-few : (game plan : List ℕ) {h : PairHeader} → PairOpened game plan h → SequencesCounted (h .counts)
+pair-few game plan o = few-sequences (game-rules game (o .game-none)) (game-limits game) (o .counts)
 
 -- arrays with both players' weights give the file's, in its order
 pub file-order : (g : Game) (plan x y : List ℕ) → Holds (weightByNumber g plan one) (sequenceCount g one) x → Holds (weightByNumber g plan two) (sequenceCount g two) y → inFileOrder (countsOf g) x y ≡ planWeights g plan
@@ -170,7 +145,7 @@ file-order g plan x y a b =
     rw (c, d, listTo-plus m n (λ i. field plan (32 + 12 * i) 12), listTo-cong m (λ i. item x (suc i)) (λ i. field plan (32 + 12 * i) 12) (λ i l. a .at (suc i) (omega arith) ∙ rw (NatL.zero-add i)), listTo-cong n (λ i. item y (suc i)) (λ i. field plan (32 + 12 * (m + i)) 12) (λ i l. b .at (suc i) (omega arith)))
 
 -- one player's weights after the other's
-pub both-placed : (n : SequenceCounts) (x y out : List ℕ) {m1 m2 : ℕ} {mid fin : List ℕ} → m1 ≡ n .first - 1 → m2 ≡ n .second - 1 → mid ≡ placed 0 (listTo m1 (λ i. item x (suc i))) out → fin ≡ placed m1 (listTo m2 (λ i. item y (suc i))) mid → fin ≡ placed 0 (inFileOrder n x y) out
+pub both-placed : (n : Counts) (x y out : List ℕ) {m1 m2 : ℕ} {mid fin : List ℕ} → m1 ≡ n .sequences1 - 1 → m2 ≡ n .sequences2 - 1 → mid ≡ placed 0 (listTo m1 (λ i. item x (suc i))) out → fin ≡ placed m1 (listTo m2 (λ i. item y (suc i))) mid → fin ≡ placed 0 (inFileOrder n x y) out
 unfolding inFileOrder
 both-placed n x y out {m1} {m2} a b e f =
     let first = listTo m1 (λ i. item x (suc i)) in

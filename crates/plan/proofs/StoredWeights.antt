@@ -22,8 +22,10 @@ use Rattle.model.proofs.Checks.{game-rules, plan-rules, pair-parts}
 use Rattle.model.proofs.Numbers.{number-below}
 use Rattle.model.proofs.PlanRules.{pair-fits-iff}
 use Rattle.model.proofs.Tree.{own-sequence}
-use Rattle.plan.specs.Weights.{weightByNumber, planByNumber, pairByNumber, Small}
-use Rattle.plan.proofs.ByNumber.{weight-at, weight-is, small-number, same-pair-fits}
+use Rattle.plan.specs.Weights.{weightByNumber}
+use Rattle.loaded.specs.Weights.{planByNumber, pairByNumber, Small}
+use Rattle.loaded.proofs.Weights.{weight-at}
+use Rattle.plan.proofs.ByNumber.{weight-is, small-number, same-pair-fits}
 
 -- One player's array.
 module _ (g : Game) (rules : GameRules g) (plan : List ℕ) (p : Player) {x : List ℕ} (held : Holds (weightByNumber g plan p) (sequenceCount g p) x) where

@@ -1,22 +1,35 @@
 // Checks 14 and 15: the length of a plan file, its header and its filling.
 ghost use mathlib.Core.Path.{_≡_};
-ghost use Prim.Native.Nat.{_+_, _*_, _/_, _≤_};
+ghost use Prim.Native.Nat.{_+_, _*_, _-_, _/_, _≤_};
 ghost use lib.ListN.{length};
 ghost use Rattle.model.specs.Game.{Game};
-ghost use Rattle.model.specs.Plan.{planMoves};
 ghost use Rattle.model.specs.PlanChecks.{planHasLength, planWellFormed};
 ghost use Rattle.checks.specs.Checked.{checkedOf};
-ghost use Rattle.records.specs.PlanRecords.{planHeaderOf};
+ghost use Rattle.loaded.specs.Counts.{countsOf};
 ghost use Rattle.plan.specs.Header.{headerRight};
+ghost use Rattle.plan.specs.Loaded.{SequencesCounted};
+ghost use Rattle.plan.specs.Weights.{weightsOf};
 use checks::Checked;
+use loaded::Counts;
 use records::PlanHeader;
 
-// Check 14, of a game with so many moves.
-pub fn has_length(plan: &[u8], moves: usize) -> Checked
-    requires { ⌜ moves ≤ 4094 ⌝ }
-    ensures { λ r. ⌜ ((g : Game) → moves ≡ planMoves g → r ≡ checkedOf 14 (planHasLength g (now (plan .entry)))) ⌝ }
+// How many weights a plan file has: one for each sequence but the empty ones.
+pub fn weight_count(counts: Counts) -> usize
+    requires { ⌜ SequencesCounted counts ⌝ }
+    ensures { λ r. ⌜ r ≡ weightsOf counts ⌝ }
 {
-    checks::check(14, plan.len() == PlanHeader::file_bytes(moves))
+    (counts.sequences1 - 1) + (counts.sequences2 - 1)
+}
+
+// Check 14, for an accepted game with these counts.
+pub fn has_length(plan: &[u8], counts: Counts) -> Checked
+    requires { ⌜ SequencesCounted counts ⌝ }
+    ensures { λ r. ⌜ ((g : Game) → counts ≡ countsOf g → r ≡ checkedOf 14 (planHasLength g (now (plan .entry)))) ⌝ }
+{
+    checks::check(
+        14,
+        plan.len() == PlanHeader::file_bytes(weight_count(counts)),
+    )
 }
 
 // Whether the edition is 1, no denominator is zero, and the zero bits are.
@@ -37,12 +50,12 @@ fn header_right(header: PlanHeader) -> bool
 }
 
 // Check 15, of a file that passes 14.
-pub fn well_formed(header: PlanHeader, plan: &[u8], moves: usize) -> Checked
-    requires { ⌜ (header ≡ planHeaderOf (now plan)) × (moves ≤ 4094) × (length (now plan) ≡ 4 + (12 * moves + 7) / 8) ⌝ }
-    ensures { λ r. ⌜ ((g : Game) → moves ≡ planMoves g → r ≡ checkedOf 15 (planWellFormed g (now (plan .entry)))) ⌝ }
+pub fn well_formed(plan: &[u8], counts: Counts) -> Checked
+    requires { ⌜ SequencesCounted counts × (length (now plan) ≡ 4 + (12 * weightsOf counts + 7) / 8) ⌝ }
+    ensures { λ r. ⌜ ((g : Game) → counts ≡ countsOf g → r ≡ checkedOf 15 (planWellFormed g (now (plan .entry)))) ⌝ }
 {
-    if header_right(header) {
-        let at = PlanHeader::weight_at(moves);
+    if header_right(PlanHeader::read(plan)) {
+        let at = PlanHeader::weight_at(weight_count(counts));
         if bits::read_field(plan, at, 8 * plan.len() - at) == 0 {
             return Checked::Fine;
         }

@@ -5,21 +5,22 @@ ghost use lib.ListN.{length};
 ghost use Rattle.algebra.specs.Arrays.{item, placed};
 ghost use Rattle.algebra.specs.Bounded.{listTo};
 ghost use Rattle.model.specs.Limits.{countLimit};
-ghost use Rattle.model.specs.Game.{one, two};
-ghost use Rattle.model.specs.Checks.{pairRefusal};
-ghost use Rattle.plan.specs.Refusals.{planRefusalOf, pairAnswer, pairRefusalOf, weightsAfter, inFileOrder};
+ghost use Rattle.loaded.specs.Sections.{numbersRoom, payoffsRoom};
+ghost use Rattle.plan.specs.Loaded.{SequencesCounted};
+ghost use Rattle.plan.specs.Refusals.{planRefusalOf, pairRefusalOf, PairRead, inFileOrder};
+ghost use Rattle.plan.specs.Weights.{weightsOf};
 use super::PairAnswer;
 use super::PairHeader;
 use super::PlanAnswer;
-use game::GameAnswer;
-use sequences::SequenceCounts;
+use game::LoadAnswer;
+use loaded::Counts;
 
 // The number of a plan's refusal, or 0.
 fn plan_refusal(answer: PlanAnswer) -> u64
     ensures { λ r. ⌜ r ≡ planRefusalOf answer ⌝ }
 {
     match answer {
-        PlanAnswer::Fits(_, _) => 0,
+        PlanAnswer::Fits(_) => 0,
         PlanAnswer::Refused(number) => number,
     }
 }
@@ -34,53 +35,51 @@ pub fn refusal(answer: PairAnswer) -> u64
     }
 }
 
-// Checks 1 to 16. Past 15 the arrays are filled with both players' weights by sequence number.
-pub fn read(game: &[u8], plan: &[u8], x: &mut [u64], y: &mut [u64]) -> PairAnswer
-    requires { ⌜ (countLimit ≤ length (now x)) × (countLimit ≤ length (now y)) ⌝ }
-    ensures { λ r. ⌜ (r ≡ pairAnswer (pairRefusal (now (game .entry)) (now (plan .entry))) (now (game .entry)) (now (plan .entry))) × (now (x .exit) ≡ weightsAfter (pairRefusal (now (game .entry)) (now (plan .entry))) (now (game .entry)) (now (plan .entry)) one (now (x .entry))) × (now (y .exit) ≡ weightsAfter (pairRefusal (now (game .entry)) (now (plan .entry))) (now (game .entry)) (now (plan .entry)) two (now (y .entry))) ⌝ }
+// Checks 1 to 16. Past 13 the game is loaded, past 15 the arrays are filled with both players' weights by sequence number.
+pub fn read(
+    game: &[u8],
+    plan: &[u8],
+    numbers: &mut [u16],
+    payoffs: &mut [i16],
+    x: &mut [u16],
+    y: &mut [u16],
+) -> PairAnswer
+    requires { ⌜ (numbersRoom ≤ length (now numbers)) × (payoffsRoom ≤ length (now payoffs)) × (countLimit ≤ length (now x)) × (countLimit ≤ length (now y)) ⌝ }
+    ensures { λ r. ⌜ PairRead (now (game .entry)) (now (plan .entry)) r (now (numbers .exit)) (now (payoffs .exit)) (now (x .entry)) (now (x .exit)) (now (y .entry)) (now (y .exit)) ⌝ }
 {
-    let checked = game::check(game);
-    let GameAnswer::Accepted(header) = checked else {
-        return PairAnswer::Refused(game::refusal(checked));
+    let loaded = game::load(game, numbers, payoffs);
+    let LoadAnswer::Loaded(counts) = loaded else {
+        return PairAnswer::Refused(game::load_refusal(loaded));
     };
-    let answer = super::check(game, header, plan, x, y);
-    let PlanAnswer::Fits(denominators, counts) = answer else {
+    let answer = super::check(numbers, counts, plan, x, y);
+    let PlanAnswer::Fits(denominators) = answer else {
         return PairAnswer::Refused(plan_refusal(answer));
     };
     PairAnswer::Fits(PairHeader {
-        header,
-        denominators,
         counts,
+        denominators,
     })
 }
 
 // Puts a player's weights without his denominator into `out`, from place `at` on.
-fn put_moves(x: &[u64], moves: usize, out: &mut [u64], at: usize)
+fn put_moves(x: &[u16], moves: usize, out: &mut [u64], at: usize)
     requires { ⌜ (1 + moves ≤ length (now x)) × (at + moves ≤ length (now out)) ⌝ }
     ensures { λ _. ⌜ now (out .exit) ≡ placed at (listTo moves (λ i. item (now (x .entry)) (suc i))) (now (out .entry)) ⌝ }
 {
     let mut i = 0;
     while i < moves {
-        out[at + i] = x[1 + i];
+        out[at + i] = loaded::number(x, 1, i) as u64;
         i += 1;
     }
 }
 
 // Puts all weights into `out` in file order.
-pub fn put_weights(counts: SequenceCounts, x: &[u64], y: &[u64], out: &mut [u64])
-    requires { ⌜ (1 ≤ counts .first) × (1 ≤ counts .second) × (counts .first ≤ length (now x)) × (counts .second ≤ length (now y)) × ((counts .first - 1) + (counts .second - 1) ≤ length (now out)) ⌝ }
+pub fn put_weights(counts: Counts, x: &[u16], y: &[u16], out: &mut [u64])
+    requires { ⌜ SequencesCounted counts × (counts .sequences1 ≤ length (now x)) × (counts .sequences2 ≤ length (now y)) × (weightsOf counts ≤ length (now out)) ⌝ }
     ensures { λ _. ⌜ now (out .exit) ≡ placed 0 (inFileOrder counts (now (x .entry)) (now (y .entry))) (now (out .entry)) ⌝ }
 {
-    let moves1 = bits::index(counts.first - 1);
-    let moves2 = bits::index(counts.second - 1);
+    let moves1 = counts.sequences1 - 1;
+    let moves2 = counts.sequences2 - 1;
     put_moves(x, moves1, out, 0);
     put_moves(y, moves2, out, moves1);
-}
-
-// How many weights a plan file has.
-pub fn weight_count(counts: SequenceCounts) -> usize
-    requires { ⌜ (1 ≤ counts .first) × (1 ≤ counts .second) × (counts .first ≤ countLimit) × (counts .second ≤ countLimit) ⌝ }
-    ensures { λ r. ⌜ r ≡ (counts .first - 1) + (counts .second - 1) ⌝ }
-{
-    bits::index(counts.first - 1) + bits::index(counts.second - 1)
 }

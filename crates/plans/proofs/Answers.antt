@@ -1,8 +1,7 @@
 -- What a pair that was read answers: as a check, and with the buffer for its weights.
-use Prim.Native.Nat.{ℕ, _+_, _-_}
+use Prim.Native.Nat.{ℕ}
 use mathlib.Core.Path.{_≡_, sym, ap, _∙_}
 use mathlib.Core.List.{List}
-use native.Mathlib.Omega.{arith}
 use lib.ListN.{length}
 use lib.Dec.{leb}
 use Rattle.algebra.specs.Arrays.{placed, Holds}
@@ -23,9 +22,9 @@ use Rattle.checks.proofs.NoBuffer.{answer-refused, answer-given}
 use Rattle.checks.proofs.Chains.{call-refuses}
 use Rattle.checks.proofs.Files.{pair-refuses, pair-fine}
 use Rattle.checks.proofs.OneBuffer.{one-short, one-given}
-use Rattle.sequences.specs.declared.SequenceCounts.{SequenceCounts}
+use Rattle.loaded.specs.declared.Counts.{Counts}
 use Rattle.plan.specs.declared.PairHeader.{PairHeader}
-use Rattle.plan.specs.Weights.{weightByNumber}
+use Rattle.plan.specs.Weights.{weightsOf, weightByNumber}
 use Rattle.plan.specs.Refusals.{inFileOrder}
 use Rattle.plan.proofs.Pairs.{PairOpened, pair-counted, file-order}
 use Rattle.plan.proofs.PairDenominators.{d1-is, d2-is}
@@ -45,9 +44,8 @@ module _ (game plan : List ℕ) where
       (answer-given CheckPlan.call pair-named (files game plan) (pair-fine game plan (o .none)))
 
 -- as many weights as there are moves
-pub weights-counted : (game plan : List ℕ) {h : PairHeader} → PairOpened game plan h → {n : ℕ} → n ≡ (h .counts .first - 1) + (h .counts .second - 1) → n ≡ planMoves (gameOf game)
-unfolding planMoves sequenceCount
-weights-counted game plan o e = let c = pair-counted game plan o in omega (arith, e, c .is1, c .is2)
+pub weights-counted : (game plan : List ℕ) {h : PairHeader} → PairOpened game plan h → {n : ℕ} → n ≡ weightsOf (h .counts) → n ≡ planMoves (gameOf game)
+weights-counted game plan o e = e ∙ pair-counted game plan o .all
 
 -- All weights of a plan.
 module _ (game plan weights : List ℕ) where
@@ -71,6 +69,6 @@ module _ (game plan weights : List ℕ) where
     pub weights-given : r ≡ Fine → (h : PairHeader) → PairOpened game plan h → {x y after : List ℕ} → Holds (weightByNumber (gameOf game) plan one) (sequenceCount (gameOf game) one) x → Holds (weightByNumber (gameOf game) plan two) (sequenceCount (gameOf game) two) y → after ≡ placed 0 (inFileOrder (h .counts) x y) weights → outcome (given (record { d1 = h .denominators .d1; d2 = h .denominators .d2; count = n })) (after, tt) ≡ PlanFields.planFields game plan weights
     unfolding PlanFields.call
     weights-given f h o {x} {y} held1 held2 put =
-        let order = ap (λ (n : SequenceCounts). inFileOrder n x y) (o .counts) ∙ file-order (gameOf game) plan x y held1 held2 in
+        let order = ap (λ (c : Counts). inFileOrder c x y) (o .counts) ∙ file-order (gameOf game) plan x y held1 held2 in
         rw (d1-is game plan h o, d2-is game plan h o, many)
         (one-given PlanFields.call pair-named (files game plan) weights (pair-fine game plan none) (many ∙ sym length-weights) made f (put ∙ ap (λ (l : List ℕ). placed 0 l weights) order))

@@ -6,6 +6,7 @@ ghost use Rattle.model.specs.calls.CheckPlan.{checkPlan};
 ghost use Rattle.model.specs.calls.PlanFields.{planFields};
 ghost use Rattle.plans.specs.Answers.{planAnswered, weightsAnswered};
 use checks::Checked;
+use loaded::Section;
 use plan::PairAnswer;
 use records::NodeRecord;
 
@@ -39,9 +40,11 @@ pub fn refusal(answer: WeightsAnswer) -> u64
 pub fn check_plan(game: &[u8], plan: &[u8]) -> PlanAnswer
     ensures { λ r. ⌜ planAnswered r ≡ checkPlan (now (game .entry)) (now (plan .entry)) .answer ⌝ }
 {
-    let mut x = [0u64; NodeRecord::NODES];
-    let mut y = [0u64; NodeRecord::NODES];
-    let answer = plan::pair::read(game, plan, &mut x, &mut y);
+    let mut numbers = [0u16; Section::NUMBERS];
+    let mut payoffs = [0i16; Section::PAYOFFS];
+    let mut x = [0u16; NodeRecord::NODES];
+    let mut y = [0u16; NodeRecord::NODES];
+    let answer = plan::pair::read(game, plan, &mut numbers, &mut payoffs, &mut x, &mut y);
     let PairAnswer::Fits(pair) = answer else {
         return PlanAnswer::Refused(plan::pair::refusal(answer));
     };
@@ -56,18 +59,21 @@ pub fn check_plan(game: &[u8], plan: &[u8]) -> PlanAnswer
 pub fn plan_fields(game: &[u8], plan: &[u8], weights: &mut [u64]) -> WeightsAnswer
     ensures { λ r. ⌜ outcome (weightsAnswered r) (now (weights .exit), tt) ≡ planFields (now (game .entry)) (now (plan .entry)) (now (weights .entry)) ⌝ }
 {
-    let mut x = [0u64; NodeRecord::NODES];
-    let mut y = [0u64; NodeRecord::NODES];
-    let checked = plan::pair::read(game, plan, &mut x, &mut y);
+    let mut numbers = [0u16; Section::NUMBERS];
+    let mut payoffs = [0i16; Section::PAYOFFS];
+    let mut x = [0u16; NodeRecord::NODES];
+    let mut y = [0u16; NodeRecord::NODES];
+    let checked = plan::pair::read(game, plan, &mut numbers, &mut payoffs, &mut x, &mut y);
     let PairAnswer::Fits(pair) = checked else {
         return WeightsAnswer::Refused(plan::pair::refusal(checked));
     };
-    let count = plan::pair::weight_count(pair.counts);
+    let counts = pair.counts;
+    let count = plan::weight_count(counts);
     let c18 = checks::has_room(count, weights.len());
     let Checked::Fine = c18 else {
         return WeightsAnswer::Refused(checks::number(c18));
     };
-    plan::pair::put_weights(pair.counts, &x, &y, weights);
+    plan::pair::put_weights(counts, &x, &y, weights);
     let denominators = pair.denominators;
     WeightsAnswer::Given {
         d1: denominators.d1,

@@ -4,7 +4,7 @@ use mathlib.Core.Path.{_≡_, ap}
 use mathlib.Core.List.{List}
 use Rattle.model.specs.Bits.{field}
 use Rattle.model.specs.Game.{gameOf, nodeAt}
-use Rattle.records.specs.declared.game.Header.{Header}
+use Rattle.records.specs.declared.game_file.Header.{Header}
 use Rattle.records.specs.Records.{headerOf, Framed}
 
 -- a header's fields are the file's

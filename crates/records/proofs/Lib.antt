@@ -3,4 +3,3 @@ mod Packed
 pub mod Headers
 mod Payloads
 pub mod Widths
-pub mod Rooted

@@ -10,11 +10,11 @@ use Rattle.model.proofs.Bits.{length-bits}
 use Rattle.model.proofs.Spelling.{BitList, bitlist-bits, bitlist-append}
 use Rattle.bits.specs.Puts.{bitsPut}
 use Rattle.bits.proofs.Puts.{put-twice, whole-put}
-use Rattle.records.specs.declared.game.Header.{Header}
-use Rattle.records.specs.declared.game.SetEntry.{SetEntry}
-use Rattle.records.specs.declared.game.Payload.{Payload}
-use Rattle.records.specs.declared.game.NodeRecord.{NodeRecord}
-use Rattle.records.specs.declared.plan.PlanHeader.{PlanHeader}
+use Rattle.records.specs.declared.game_file.Header.{Header}
+use Rattle.records.specs.declared.game_file.SetEntry.{SetEntry}
+use Rattle.records.specs.declared.game_file.Payload.{Payload}
+use Rattle.records.specs.declared.game_file.NodeRecord.{NodeRecord}
+use Rattle.records.specs.declared.plan_file.PlanHeader.{PlanHeader}
 use Rattle.records.specs.PlanRecords.{planHeaderBits}
 use Rattle.records.specs.Records.{headerBits, entryBits, payloadBits, nodeBits}
 

@@ -9,7 +9,7 @@ use Rattle.algebra.proofs.Tests.{cond-no, eqb-make}
 use Rattle.model.specs.Game.{Game, gameOf, setAt, nodeAt, isDecision, isChance, nodeMoves}
 use Rattle.model.proofs.Tree.{decision-moves}
 use Rattle.model.proofs.Bits.{field-fits}
-use Rattle.records.specs.declared.game.Payload.{Payload}
+use Rattle.records.specs.declared.game_file.Payload.{Payload}
 use Rattle.records.specs.Records.{payloadOf, noPayload, NodeRead}
 use Rattle.records.proofs.Records.{moves-by-kind}
 

@@ -13,9 +13,9 @@ use Rattle.algebra.proofs.Tests.{cond-no}
 use Rattle.model.specs.Bits.{field, signed}
 use Rattle.model.specs.Game.{gameOf, nodeAt, one, two, playerOf, playerBit, isLeaf, isDecision, isChance}
 use Rattle.model.specs.Writing.{payoffField, playerField, setField, movesField}
-use Rattle.records.specs.declared.game.SetEntry.{SetEntry}
-use Rattle.records.specs.declared.game.Payload.{Payload}
-use Rattle.records.specs.declared.game.NodeRecord.{NodeRecord}
+use Rattle.records.specs.declared.game_file.SetEntry.{SetEntry}
+use Rattle.records.specs.declared.game_file.Payload.{Payload}
+use Rattle.records.specs.declared.game_file.NodeRecord.{NodeRecord}
 use Rattle.records.specs.Records.{SetRead, NodeRead, payloadOf}
 
 -- a number of 16 bits, read from its bits, fits 64, and is there the same number

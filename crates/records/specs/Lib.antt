@@ -1,3 +1,2 @@
 pub mod PlanRecords
 pub mod Records
-pub mod Rooted

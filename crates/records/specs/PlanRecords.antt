@@ -4,8 +4,8 @@ use mathlib.Core.List.{List, _++_}
 use Rattle.model.specs.Bits.{field, bits}
 use Rattle.model.specs.Game.{one, two}
 use Rattle.model.specs.Plan.{denominatorAt, headerZerosAt}
-use Rattle.records.specs.declared.plan.Denominators.{Denominators}
-use Rattle.records.specs.declared.plan.PlanHeader.{PlanHeader}
+use Rattle.records.specs.declared.plan_file.Denominators.{Denominators}
+use Rattle.records.specs.declared.plan_file.PlanHeader.{PlanHeader}
 
 -- D1 and D2
 unfoldable pub denominatorsOf : List ℕ → Denominators

@@ -5,10 +5,10 @@ use mathlib.Core.List.{List, _++_}
 use lib.IntN.{ℤ, pos}
 use Rattle.model.specs.Bits.{field, signed, bits, twosComplement}
 use Rattle.model.specs.Game.{gameOf, nodeAt, setAt}
-use Rattle.records.specs.declared.game.Header.{Header}
-use Rattle.records.specs.declared.game.SetEntry.{SetEntry}
-use Rattle.records.specs.declared.game.Payload.{Payload}
-use Rattle.records.specs.declared.game.NodeRecord.{NodeRecord}
+use Rattle.records.specs.declared.game_file.Header.{Header}
+use Rattle.records.specs.declared.game_file.SetEntry.{SetEntry}
+use Rattle.records.specs.declared.game_file.Payload.{Payload}
+use Rattle.records.specs.declared.game_file.NodeRecord.{NodeRecord}
 
 -- the header: edition, N, H, D0, and where the node records begin
 unfoldable pub headerOf : List ℕ → Header

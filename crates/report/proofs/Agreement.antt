@@ -21,17 +21,17 @@ module _ (g : Game) (q : PlanPair) where
   unfolding basesOf valuesText bothLines amountLine valuesOf valueLine bestLine value bestValue valueBase againstBase
   values-are = sym (append-assoc (valueLine g q one ++ valueLine g q two) (bestLine g q one) (bestLine g q two))
 
-  -- Moves by set whose lines are those of the best responses.
-  module _ (moves1 moves2 : List ℕ) (first : strategyLines g one moves1 ≡ flatMap moveLine (bestResponse g one (q two))) (second : strategyLines g two moves2 ≡ flatMap moveLine (bestResponse g two (q one))) where
-    verdict-is : verdictText g (valueBase g q) (withoutMoves (verdict g q)) moves1 moves2 ≡ verdictLines g q (verdict g q)
+  -- Players and moves by set whose lines are those of the best responses.
+  module _ (numbers moves1 moves2 : List ℕ) (first : strategyLines numbers (g .sets) 0 moves1 ≡ flatMap moveLine (bestResponse g one (q two))) (second : strategyLines numbers (g .sets) 1 moves2 ≡ flatMap moveLine (bestResponse g two (q one))) where
+    verdict-is : verdictText numbers (g .sets) (valueBase g q) (withoutMoves (verdict g q)) moves1 moves2 ≡ verdictLines g q (verdict g q)
     unfolding verdict deviationOf verdictText deviationText amountLine verdictLines gainAmount
     verdict-is = go (ltZ (pos 0) (gain g q one)) (ltZ (pos 0) (gain g q two))
       where
-        go : (a b : Bool) → verdictText g (valueBase g q) (withoutMoves (cond a (deviationOf g q one) (cond b (deviationOf g q two) equilibrium))) moves1 moves2 ≡ verdictLines g q (cond a (deviationOf g q one) (cond b (deviationOf g q two) equilibrium))
+        go : (a b : Bool) → verdictText numbers (g .sets) (valueBase g q) (withoutMoves (cond a (deviationOf g q one) (cond b (deviationOf g q two) equilibrium))) moves1 moves2 ≡ verdictLines g q (cond a (deviationOf g q one) (cond b (deviationOf g q two) equilibrium))
         go true b = rw first
         go false true = rw second
         go false false = refl
 
-    pub report-is : reportText g (basesOf (g .rootWeight) (q one .denominator) (q two .denominator)) (valuesOf g q) (withoutMoves (verdict g q)) moves1 moves2 ≡ report g q
+    pub report-is : reportText numbers (g .sets) (basesOf (g .rootWeight) (q one .denominator) (q two .denominator)) (valuesOf g q) (withoutMoves (verdict g q)) moves1 moves2 ≡ report g q
     unfolding reportText report basesOf valueBase
     report-is = rw (values-are, verdict-is)

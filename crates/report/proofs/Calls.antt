@@ -26,7 +26,6 @@ use Rattle.checks.proofs.Chains.{begin, ends, call-refuses, call-gives, same-ru
 use Rattle.checks.proofs.Files.{pair-refuses, pair-fine}
 use Rattle.model.proofs.Rows.{refusal-below}
 use Rattle.checks.proofs.OneBuffer.{one-short, one-given}
-use Rattle.records.proofs.Headers.{header-weight, header-sets}
 use Rattle.records.proofs.Widths.{few-sets}
 use Rattle.plan.specs.declared.PairHeader.{PairHeader}
 use Rattle.plan.proofs.Pairs.{PairOpened}
@@ -34,7 +33,7 @@ use Rattle.form.specs.declared.Values.{Values}
 use Rattle.plan.proofs.PairDenominators.{d1-is, d2-is}
 use Rattle.judgement.specs.declared.Verdict.{Verdict}
 use Rattle.judgement.specs.Judgement.{judged}
-use Rattle.verdict.proofs.EvaluatedPairs.{EvaluationOpened}
+use Rattle.verdict.proofs.EvaluatedPairs.{EvaluationOpened, weight-is, sets-are}
 use Rattle.verdict.proofs.VerdictAnswered.{judged-as}
 use Rattle.text.specs.Text.{Put}
 use Rattle.text.proofs.Lengths.{refusal-line-length}
@@ -111,11 +110,11 @@ module _ (game plan : List ℕ) (h : PairHeader) (o : PairOpened game plan h) wh
   abbrev q : PlanPair
   q = planPairOf (gameOf game) plan
 
-  denominators-fit : DenominatorsFit (h .header .«root_weight») (h .denominators .d1) (h .denominators .d2)
+  denominators-fit : DenominatorsFit (h .counts .«root_weight») (h .denominators .d1) (h .denominators .d2)
   denominators-fit =
       let parts = pair-parts game plan .0 (o .none) in
       let file = plan-rules game plan (parts .1) in
-      rw (header-weight (h .header) game (o .header), d1-is game plan h o, d2-is game plan h o)
+      rw (weight-is game plan h o, d1-is game plan h o, d2-is game plan h o)
       (record {
         root-some = game-rules game (o .game-none) .some-weight;
         d1-some = file .denominators one;
@@ -125,18 +124,24 @@ module _ (game plan : List ℕ) (h : PairHeader) (o : PairOpened game plan h) wh
         d2-few = plan-limits g plan two .denominator;
       })
 
-  -- it is ready to be reported, with a move for every set
-  pub pair-ready : {moves1 moves2 : List ℕ} → gameOf game .sets ≤ length moves1 → gameOf game .sets ≤ length moves2 → PairReady game h moves1 moves2
-  pair-ready l m =
-      let same = header-sets (h .header) game (o .header) in
-      record { sets = same; long1 = omega (arith, same); long2 = omega (arith, same); denominators = denominators-fit }
+-- What was evaluated of a pair is ready to be reported.
+pub pair-ready : (game plan : List ℕ) (h : PairHeader) {v : Values} {numbers moves1 moves2 : List ℕ} → EvaluationOpened game plan h v numbers moves1 moves2 → PairReady numbers h moves1 moves2
+pair-ready game plan h e =
+    let o = e .opened in
+    let same = sets-are game plan h o in
+    record {
+      long = omega (arith, same, e .players .long);
+      long1 = omega (arith, same, e .best1 .long);
+      long2 = omega (arith, same, e .best2 .long);
+      denominators = denominators-fit game plan h o;
+    }
 
 -- The report on what was evaluated and judged is the files'.
-pub report-agrees : (game plan : List ℕ) (h : PairHeader) {v : Values} {moves1 moves2 : List ℕ} → EvaluationOpened game plan h v moves1 moves2 → {d : Verdict} → d ≡ judged (v .value1) (v .value2) (v .best1) (v .best2) (h .denominators .d1) (h .denominators .d2) → pairReport game h v d moves1 moves2 ≡ Text.reportOf game plan
+pub report-agrees : (game plan : List ℕ) (h : PairHeader) {v : Values} {numbers moves1 moves2 : List ℕ} → EvaluationOpened game plan h v numbers moves1 moves2 → {d : Verdict} → d ≡ judged (v .value1) (v .value2) (v .best1) (v .best2) (h .denominators .d1) (h .denominators .d2) → pairReport numbers h v d moves1 moves2 ≡ Text.reportOf game plan
 unfolding Text.reportOf
-report-agrees game plan h {v} {moves1} {moves2} e j =
+report-agrees game plan h {v} {numbers} {moves1} {moves2} e j =
     let g = gameOf game in
     let q = planPairOf g plan in
     let o = e .opened in
-    rw (judged-as game plan h o (e .values) j, e .values, header-weight (h .header) game (o .header), d1-is game plan h o, d2-is game plan h o)
-    (report-is g q moves1 moves2 (strategy-lines g one (q two) moves1 (e .best1)) (strategy-lines g two (q one) moves2 (e .best2)))
+    rw (judged-as game plan h o (e .values) j, e .values, sets-are game plan h o, weight-is game plan h o, d1-is game plan h o, d2-is game plan h o)
+    (report-is g q numbers moves1 moves2 (strategy-lines g (e .players) 0 (omega arith) (q two) (e .best1)) (strategy-lines g (e .players) 1 (omega arith) (q one) (e .best2)))

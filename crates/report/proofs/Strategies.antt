@@ -1,23 +1,28 @@
 -- The lines of a player's sets: one by one as they are put, and those of the model's best response.
 use Prim.Native.Nat.{ℕ, zero, suc, _+_, _*_, _≤_, _<_}
 use mathlib.Core.Path.{_≡_, refl, sym, ap, _∙_}
-use mathlib.Core.Bool.{cond}
+use mathlib.Core.Bool.{Bool, cond}
 use mathlib.Core.List.{List, [], _∷_, _++_, flatMap, append-nil, append-assoc}
 use native.Mathlib.Omega.{arith}
 use native.Mathlib.Decide.{ℕ-discrete}
 use native.Mathlib.Numerals.{add-one}
+use borrow.Author.Tests.{eq-eqb, ne-eqb}
 use lib.Dec.{T}
 use lib.ListN.{length, length-append}
 use Rattle.algebra.specs.Arrays.{item, Holds}
+use Rattle.algebra.specs.Sections.{Held}
 use Rattle.algebra.specs.Bounded.{joinTo}
 use Rattle.algebra.proofs.Lists.{joinTo-suc, joinTo-cong}
 use Rattle.algebra.proofs.Tests.{dec, cond-yes, cond-no}
-use Rattle.model.specs.Game.{playerNumber, Game, Player, owns, playerOf, playerNumber}
+use Rattle.model.specs.Game.{Game, Player, owns, playerOf}
 use Rattle.model.specs.Sequences.{Move}
 use Rattle.model.specs.Plan.{RealizationPlan}
 use Rattle.model.specs.BestResponse.{bestMove, bestAt, bestResponse}
 use Rattle.model.specs.Report.{moveLine}
-use Rattle.form.specs.BestMoves.{ownBestMove}
+use Rattle.model.specs.Writing.{playerField}
+use Rattle.loaded.specs.Sections.{playerSection}
+use Rattle.loaded.proofs.Owners.{owner-at}
+use Rattle.responses.specs.BestMoves.{ownBestMove}
 use Rattle.text.specs.Text.{TextFits, Put}
 use Rattle.report.specs.Whole.{setLine, strategyLines}
 use Rattle.text.proofs.Puts.{put-none, room-then, put-then}
@@ -37,11 +42,6 @@ pub joined-most : {A : Type 0} (c n : ℕ) (f : ℕ → List A) → ((i : ℕ) �
 unfolding joinTo
 joined-most c zero f h = omega arith
 joined-most c (suc n) f h = omega (arith, length-append (joinTo n f) (f n), joined-most c n f (λ i l. h i (omega arith)), h n (omega arith))
-
--- a player's number is one more than his bit
-pub bit-number : (b : ℕ) → b < 2 → b + 1 ≡ playerNumber (playerOf b)
-bit-number zero l = refl
-bit-number (suc b) l = omega arith
 
 -- A loop that puts one text after the other.
 module _ (f : ℕ → List ℕ) {at : ℕ} {before : List ℕ} where
@@ -74,41 +74,44 @@ unfolding flatMap joinTo
 flatMap-joinTo f zero k = refl
 flatMap-joinTo f (suc n) k = flatMap-append f (joinTo n k) (k n) ∙ rw (flatMap-joinTo f n k)
 
-module _ (g : Game) (p : Player) where
-  -- the line of a set, by whose it is
-  pub line-own : (moves : List ℕ) (h : ℕ) → T (owns g p h) → setLine g p moves h ≡ moveLine (h, item moves h)
+-- The line of set h, by the number that was read of its player.
+module _ (numbers : List ℕ) (player : ℕ) (moves : List ℕ) (h : ℕ) {r : ℕ} (read : r ≡ item numbers (playerSection + h)) where
+  pub line-own : r ≡ player → setLine numbers player moves h ≡ moveLine (h, item moves h)
   unfolding setLine
-  line-own moves h o = cond-yes (owns g p h) (moveLine (h, item moves h)) [] o
+  line-own e = rw (eq-eqb (item numbers (playerSection + h)) player (sym read ∙ e))
 
-  pub line-other : (moves : List ℕ) (h : ℕ) → ¬ T (owns g p h) → setLine g p moves h ≡ []
+  pub line-other : ¬ (r ≡ player) → setLine numbers player moves h ≡ []
   unfolding setLine
-  line-other moves h o = cond-no (owns g p h) (moveLine (h, item moves h)) [] o
+  line-other n = rw (ne-eqb (item numbers (playerSection + h)) player (λ e. n (read ∙ e)))
 
-  -- Moves by set that are p's best moves against y.
-  module _ (y : RealizationPlan) where
-    -- a set's line in the model's text
-    abbrev pub responseLine : ℕ → List ℕ
-    responseLine h = flatMap moveLine (cond (owns g p h) (bestAt g p y h) [])
+-- The best response of p to y.
+module _ (g : Game) (p : Player) (y : RealizationPlan) where
+  -- a set's line in the model's text
+  abbrev pub responseLine : ℕ → List ℕ
+  responseLine h = flatMap moveLine (cond (owns g p h) (bestAt g p y h) [])
 
-    pub response-own : (h : ℕ) → T (owns g p h) → responseLine h ≡ moveLine (h, bestMove g p y h)
-    unfolding flatMap bestAt
-    response-own h o = rw (cond-yes {A = List Move} (owns g p h) ((h, bestMove g p y h) ∷ []) [] o) (append-nil (moveLine (h, bestMove g p y h)))
+  pub response-own : (h : ℕ) → T (owns g p h) → responseLine h ≡ moveLine (h, bestMove g p y h)
+  unfolding flatMap bestAt
+  response-own h o = rw (cond-yes {A = List Move} (owns g p h) ((h, bestMove g p y h) ∷ []) [] o) (append-nil (moveLine (h, bestMove g p y h)))
 
-    pub response-other : (h : ℕ) → ¬ T (owns g p h) → responseLine h ≡ []
-    unfolding flatMap
-    response-other h o = rw (cond-no {A = List Move} (owns g p h) (bestAt g p y h) [] o)
+  pub response-other : (h : ℕ) → ¬ T (owns g p h) → responseLine h ≡ []
+  unfolding flatMap
+  response-other h o = rw (cond-no {A = List Move} (owns g p h) (bestAt g p y h) [] o)
 
-    pub response-lines : flatMap moveLine (bestResponse g p y) ≡ joinTo (g .sets) responseLine
-    unfolding bestResponse
-    response-lines = flatMap-joinTo moveLine (g .sets) (λ h. cond (owns g p h) (bestAt g p y h) [])
+  pub response-lines : flatMap moveLine (bestResponse g p y) ≡ joinTo (g .sets) responseLine
+  unfolding bestResponse
+  response-lines = flatMap-joinTo moveLine (g .sets) (λ h. cond (owns g p h) (bestAt g p y h) [])
 
-    -- his sets' lines are those of the best response
-    pub strategy-lines : (moves : List ℕ) → Holds (ownBestMove g p y) (g .sets) moves → strategyLines g p moves ≡ flatMap moveLine (bestResponse g p y)
-    unfolding strategyLines ownBestMove
-    strategy-lines moves held = joinTo-cong (g .sets) _ _ (λ h l. at-set h l (dec (owns g p h))) ∙ sym response-lines
-      where
-        at-set : (h : ℕ) → h < g .sets → Dec (T (owns g p h)) → setLine g p moves h ≡ responseLine h
-        at-set h l (yes o) =
-            let best : item moves h ≡ bestMove g p y h = held .at h l ∙ cond-yes (owns g p h) (bestMove g p y h) 0 o in
-            line-own moves h o ∙ ap (λ (m : ℕ). moveLine (h, m)) best ∙ sym (response-own h o)
-        at-set h l (no o) = line-other moves h o ∙ sym (response-other h o)
+-- Where the players of a game's sets stand in the numbers and the moves are a player's best, his sets' lines are those of his best response.
+pub strategy-lines : (g : Game) {numbers : List ℕ} → Held playerSection (playerField g) (g .sets) numbers → (b : ℕ) → b < 2 → (y : RealizationPlan) {moves : List ℕ} → Holds (ownBestMove g (playerOf b) y) (g .sets) moves → strategyLines numbers (g .sets) b moves ≡ flatMap moveLine (bestResponse g (playerOf b) y)
+unfolding strategyLines setLine ownBestMove
+strategy-lines g {numbers} players b few y {moves} held = joinTo-cong (g .sets) _ _ (λ h l. ap (λ (own : Bool). cond own (moveLine (h, item moves h)) []) (owner-at g players b h few l) ∙ at-set h l (dec (owns g p h))) ∙ sym (response-lines g p y)
+  where
+    p : Player
+    p = playerOf b
+
+    at-set : (h : ℕ) → h < g .sets → Dec (T (owns g p h)) → cond (owns g p h) (moveLine (h, item moves h)) [] ≡ responseLine g p y h
+    at-set h l (yes o) =
+        let best : item moves h ≡ bestMove g p y h = held .at h l ∙ cond-yes (owns g p h) (bestMove g p y h) 0 o in
+        cond-yes (owns g p h) (moveLine (h, item moves h)) [] o ∙ ap (λ (m : ℕ). moveLine (h, m)) best ∙ sym (response-own g p y h o)
+    at-set h l (no o) = cond-no (owns g p h) (moveLine (h, item moves h)) [] o ∙ sym (response-other g p y h o)

@@ -6,23 +6,22 @@ use native.Mathlib.Omega.{arith}
 use native.Mathlib.Nat as NatL
 use borrow.Author.Tests.{eq-eqb, ne-eqb}
 use lib.IntN.{ℤ}
-use Rattle.model.specs.Game.{Game, one, two}
 use Rattle.model.specs.Report.{ascii, line}
 use Rattle.judgement.specs.declared.Verdict.{Verdict}
 use Rattle.judgement.specs.declared.Verdict.the-variants.{Equilibrium, Deviation}
 use Rattle.text.specs.Lines.{fraction}
 use Rattle.report.specs.Whole.{DenominatorsFit, BasesFit, basesOf, deviationText, verdictText}
 
-module _ (g : Game) (base : ℕ) {v : Verdict} (moves1 moves2 : List ℕ) where
-  pub text-accepted : v ≡ Equilibrium → verdictText g base v moves1 moves2 ≡ line (ascii "accepted")
+module _ (numbers : List ℕ) (sets base : ℕ) {v : Verdict} (moves1 moves2 : List ℕ) where
+  pub text-accepted : v ≡ Equilibrium → verdictText numbers sets base v moves1 moves2 ≡ line (ascii "accepted")
   unfolding verdictText
   text-accepted e = rw e
 
-  pub text-first : {player : ℕ} {gain : ℤ} → v ≡ Deviation player gain → player ≡ 1 → verdictText g base v moves1 moves2 ≡ deviationText g one (fraction gain base) moves1
+  pub text-first : {player : ℕ} {gain : ℤ} → v ≡ Deviation player gain → player ≡ 1 → verdictText numbers sets base v moves1 moves2 ≡ deviationText numbers sets 0 (fraction gain base) moves1
   unfolding verdictText
   text-first {player} e n = rw (e, eq-eqb player 1 n)
 
-  pub text-second : {player : ℕ} {gain : ℤ} → v ≡ Deviation player gain → ¬ (player ≡ 1) → verdictText g base v moves1 moves2 ≡ deviationText g two (fraction gain base) moves2
+  pub text-second : {player : ℕ} {gain : ℤ} → v ≡ Deviation player gain → ¬ (player ≡ 1) → verdictText numbers sets base v moves1 moves2 ≡ deviationText numbers sets 1 (fraction gain base) moves2
   unfolding verdictText
   text-second {player} e n = rw (e, ne-eqb player 1 n)
 

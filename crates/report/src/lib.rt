@@ -1,8 +1,8 @@
 // The desk program's text, put into a lent buffer.
 pub mod printing;
 pub mod reports;
-pub mod strategy;
-pub mod whole;
+mod strategy;
+mod whole;
 
 // What amounts are counted over: values over D0 × D1 × D2, each player's best value over D0 × the other's D.
 pub struct Bases {

@@ -14,6 +14,7 @@ use checks::Checked;
 use checks::WriteAnswer;
 use form::Values;
 use judgement::Verdict;
+use loaded::Section;
 use plan::PairHeader;
 use records::NodeRecord;
 use text::lines::put_refusal;
@@ -36,19 +37,19 @@ fn give(text: &[u8], out: &mut [u8]) -> WriteAnswer
 
 // Puts the report on a pair that was evaluated and judged, likewise.
 fn give_report(
-    game: &[u8],
+    numbers: &[u16],
     pair: PairHeader,
     values: Values,
     verdict: Verdict,
-    moves1: &[usize],
-    moves2: &[usize],
+    moves1: &[u16],
+    moves2: &[u16],
     out: &mut [u8],
 ) -> WriteAnswer
-    requires { ⌜ PairReady (now game) pair (now moves1) (now moves2) × (length (pairReport (now game) pair values verdict (now moves1) (now moves2)) ≤ most) ⌝ }
-    ensures { λ r. ⌜ outcome (writeAnswered r) (now (out .exit), tt) ≡ run giving (pairReport (now (game .entry)) pair values verdict (now (moves1 .entry)) (now (moves2 .entry))) (now (out .entry), tt) ⌝ }
+    requires { ⌜ PairReady (now numbers) pair (now moves1) (now moves2) × (length (pairReport (now numbers) pair values verdict (now moves1) (now moves2)) ≤ most) ⌝ }
+    ensures { λ r. ⌜ outcome (writeAnswered r) (now (out .exit), tt) ≡ run giving (pairReport (now (numbers .entry)) pair values verdict (now (moves1 .entry)) (now (moves2 .entry))) (now (out .entry), tt) ⌝ }
 {
     let mut text = [0u8; MOST];
-    let size = write(game, pair, values, verdict, moves1, moves2, &mut text);
+    let size = write(numbers, pair, values, verdict, moves1, moves2, &mut text);
     give(&text[..size], out)
 }
 
@@ -56,14 +57,23 @@ fn give_report(
 pub fn report(game: &[u8], plan: &[u8], out: &mut [u8]) -> WriteAnswer
     ensures { λ r. ⌜ outcome (writeAnswered r) (now (out .exit), tt) ≡ reportCall (now (game .entry)) (now (plan .entry)) (now (out .entry)) ⌝ }
 {
-    let mut moves1 = [0usize; NodeRecord::NODES];
-    let mut moves2 = [0usize; NodeRecord::NODES];
-    let evaluated = pairs::evaluate(game, plan, &mut moves1, &mut moves2);
+    let mut numbers = [0u16; Section::NUMBERS];
+    let mut payoffs = [0i16; Section::PAYOFFS];
+    let mut moves1 = [0u16; NodeRecord::NODES];
+    let mut moves2 = [0u16; NodeRecord::NODES];
+    let evaluated = pairs::evaluate(
+        game,
+        plan,
+        &mut numbers,
+        &mut payoffs,
+        &mut moves1,
+        &mut moves2,
+    );
     let PairEvaluated::Evaluated { pair, values } = evaluated else {
         return WriteAnswer::Refused(pairs::refusal(evaluated));
     };
     let judged = judge(values, pair.denominators);
-    give_report(game, pair, values, judged, &moves1, &moves2, out)
+    give_report(&numbers, pair, values, judged, &moves1, &moves2, out)
 }
 
 // The line that names a refusal, likewise; its own refusal is 18.

@@ -2,7 +2,6 @@
 ghost use mathlib.Core.Path.{_≡_};
 ghost use Prim.Native.Nat.{_≤_, _<_};
 ghost use lib.ListN.{length};
-ghost use Rattle.model.specs.Game.{gameOf, playerOf};
 ghost use Rattle.text.specs.Text.{TextFits, Put};
 ghost use Rattle.text.specs.Lines.{BaseFits, fraction};
 ghost use Rattle.report.specs.Whole.{DenominatorsFit, BasesFit, basesOf, bothLines, valuesText, deviationText, verdictText, pairReport, PairReady};
@@ -17,15 +16,15 @@ use verdict::verdicts::base;
 
 // What the amounts of a pair are counted over.
 fn bases(pair: PairHeader) -> Bases
-    requires { ⌜ DenominatorsFit (pair .header .«root_weight») (pair .denominators .d1) (pair .denominators .d2) ⌝ }
-    ensures { λ r. ⌜ r ≡ basesOf (pair .header .«root_weight») (pair .denominators .d1) (pair .denominators .d2) ⌝ }
+    requires { ⌜ DenominatorsFit (pair .counts .«root_weight») (pair .denominators .d1) (pair .denominators .d2) ⌝ }
+    ensures { λ r. ⌜ r ≡ basesOf (pair .counts .«root_weight») (pair .denominators .d1) (pair .denominators .d2) ⌝ }
 {
-    let header = pair.header;
+    let counts = pair.counts;
     let denominators = pair.denominators;
     Bases {
         values: base(pair),
-        best1: header.root_weight * denominators.d2,
-        best2: header.root_weight * denominators.d1,
+        best1: counts.root_weight * denominators.d2,
+        best2: counts.root_weight * denominators.d1,
     }
 }
 
@@ -73,43 +72,43 @@ fn put_values(values: Values, bases: Bases, out: &mut [u8], at: usize) -> usize
 
 // Puts the deviation of a player, given by his bit, with his strategy.
 fn put_deviation(
-    game: &[u8],
+    numbers: &[u16],
     sets: usize,
-    player: u64,
+    player: usize,
     gain: i64,
     base: u64,
-    moves: &[usize],
+    moves: &[u16],
     out: &mut [u8],
     at: usize,
 ) -> usize
-    requires { ⌜ (sets ≡ gameOf (now game) .sets) × (player < 2) × (sets ≤ length (now moves)) × BaseFits base × TextFits at (deviationText (gameOf (now game)) (playerOf player) (fraction gain base) (now moves)) (now out) ⌝ }
-    ensures { λ r. ⌜ Put at (deviationText (gameOf (now (game .entry))) (playerOf player) (fraction gain base) (now (moves .entry))) (now (out .entry)) (now (out .exit)) r ⌝ }
+    requires { ⌜ (player < 2) × (sets ≤ length (now numbers)) × (sets ≤ length (now moves)) × BaseFits base × TextFits at (deviationText (now numbers) sets player (fraction gain base) (now moves)) (now out) ⌝ }
+    ensures { λ r. ⌜ Put at (deviationText (now (numbers .entry)) sets player (fraction gain base) (now (moves .entry))) (now (out .entry)) (now (out .exit)) r ⌝ }
 {
     let past_gain = put_amount_line(
         b"deviation player ",
-        player + 1,
+        player as u64 + 1,
         b" gain ",
         gain,
         base,
         out,
         at,
     );
-    put_strategy(game, sets, player, moves, out, past_gain)
+    put_strategy(numbers, sets, player, moves, out, past_gain)
 }
 
 // Puts the verdict.
 fn put_verdict(
-    game: &[u8],
+    numbers: &[u16],
     sets: usize,
     verdict: Verdict,
     base: u64,
-    moves1: &[usize],
-    moves2: &[usize],
+    moves1: &[u16],
+    moves2: &[u16],
     out: &mut [u8],
     at: usize,
 ) -> usize
-    requires { ⌜ (sets ≡ gameOf (now game) .sets) × (sets ≤ length (now moves1)) × (sets ≤ length (now moves2)) × BaseFits base × TextFits at (verdictText (gameOf (now game)) base verdict (now moves1) (now moves2)) (now out) ⌝ }
-    ensures { λ r. ⌜ Put at (verdictText (gameOf (now (game .entry))) base verdict (now (moves1 .entry)) (now (moves2 .entry))) (now (out .entry)) (now (out .exit)) r ⌝ }
+    requires { ⌜ (sets ≤ length (now numbers)) × (sets ≤ length (now moves1)) × (sets ≤ length (now moves2)) × BaseFits base × TextFits at (verdictText (now numbers) sets base verdict (now moves1) (now moves2)) (now out) ⌝ }
+    ensures { λ r. ⌜ Put at (verdictText (now (numbers .entry)) sets base verdict (now (moves1 .entry)) (now (moves2 .entry))) (now (out .entry)) (now (out .exit)) r ⌝ }
 {
     let Verdict::Deviation {
         player_number,
@@ -119,30 +118,30 @@ fn put_verdict(
         return put_accepted(out, at);
     };
     if player_number == 1 {
-        return put_deviation(game, sets, 0, gain, base, moves1, out, at);
+        return put_deviation(numbers, sets, 0, gain, base, moves1, out, at);
     }
-    put_deviation(game, sets, 1, gain, base, moves2, out, at)
+    put_deviation(numbers, sets, 1, gain, base, moves2, out, at)
 }
 
-// Puts the whole report at the start of a buffer that is long enough; `moves1` and `moves2` have each player's moves by set.
+// Puts the whole report at the start of a buffer that is long enough; `numbers` has the player of each set, `moves1` and `moves2` each player's moves by set.
 pub fn write(
-    game: &[u8],
+    numbers: &[u16],
     pair: PairHeader,
     values: Values,
     verdict: Verdict,
-    moves1: &[usize],
-    moves2: &[usize],
+    moves1: &[u16],
+    moves2: &[u16],
     out: &mut [u8],
 ) -> usize
-    requires { ⌜ PairReady (now game) pair (now moves1) (now moves2) × TextFits 0 (pairReport (now game) pair values verdict (now moves1) (now moves2)) (now out) ⌝ }
-    ensures { λ r. ⌜ Put 0 (pairReport (now (game .entry)) pair values verdict (now (moves1 .entry)) (now (moves2 .entry))) (now (out .entry)) (now (out .exit)) r ⌝ }
+    requires { ⌜ PairReady (now numbers) pair (now moves1) (now moves2) × TextFits 0 (pairReport (now numbers) pair values verdict (now moves1) (now moves2)) (now out) ⌝ }
+    ensures { λ r. ⌜ Put 0 (pairReport (now (numbers .entry)) pair values verdict (now (moves1 .entry)) (now (moves2 .entry))) (now (out .entry)) (now (out .exit)) r ⌝ }
 {
-    let header = pair.header;
+    let counts = pair.counts;
     let bases = bases(pair);
     let past_values = put_values(values, bases, out, 0);
     put_verdict(
-        game,
-        header.sets,
+        numbers,
+        counts.sets,
         verdict,
         bases.values,
         moves1,

@@ -1,19 +1,16 @@
--- Laws of the first greatest of integers, which is found from the front, and of best moves by stored worths.
+-- Laws of the first greatest of integers, which is found from the front.
 use Prim.Native.Nat.{ℕ, pred, _+_, _≤_, _<_}
-use mathlib.Core.Path.{_≡_, sym, _∙_, subst}
+use mathlib.Core.Path.{_≡_, sym, subst}
 use mathlib.Core.Bool.{Bool, true, false}
-use mathlib.Core.List.{List}
 use native.Mathlib.Omega.{arith, by-contra}
 use native.Mathlib.Decide.{ℕ-discrete}
-use lib.Dec.{T, ltb, ltb→lt, lt→ltb}
+use lib.Dec.{T}
 use lib.IntN.{ℤ}
 use lib.Signed.{ltZ, leZ, _≤ℤ_, _<ℤ_, ltZ-yes, ltZ-no, leZ-yes, ≤ℤ-refl, <ℤ-≤ℤ-trans, clashℤ}
-use Rattle.algebra.specs.Arrays.{item}
 use Rattle.algebra.specs.Bounded.{maxThrough, firstTo}
-use Rattle.algebra.proofs.Tests.{cond-yes, cond-no}
 use Rattle.algebra.proofs.Integers.{<ℤ→≤ℤ, to-lt, lt-to, le-to}
 use Rattle.algebra.proofs.Searches.{firstTo-found, firstTo-least, maxThrough-above, maxThrough-met}
-use Rattle.responses.specs.BestMoves.{firstGreatest, bestStored, bestOf, MovesStored}
+use Rattle.responses.specs.BestMoves.{firstGreatest}
 
 -- r is the least number below n at which f is greatest
 pub record Foremost (f : ℕ → ℤ) (n r : ℕ) : Type 0 where
@@ -72,18 +69,3 @@ module _ (f : ℕ → ℤ) where
       let found = firstTo-found n test r (o .inside) passes in
       let below = by-contra r (firstTo n test) (λ l. clashℤ (<ℤ-≤ℤ-trans (o .least (firstTo n test) l) (maxThrough-above (pred n) f r (omega (arith, o .inside)))) (leZ-yes (found .0))) in
       omega (arith, firstTo-least n test r (o .inside) passes)
-
-module _ (worth : List ℤ) (lead start count : List ℕ) (sequences : ℕ) where
-  -- the best move of a set of the player's
-  pub best-own : (h : ℕ) {r : ℕ} → item lead h < sequences → r ≡ bestStored worth (item start h) (item count h) → r ≡ bestOf worth lead start count sequences h
-  unfolding bestOf
-  best-own h b e = e ∙ sym (cond-yes (ltb (item lead h) sequences) (bestStored worth (item start h) (item count h)) 0 (lt→ltb (item lead h) sequences b))
-
-  -- and what stands for the other player's
-  pub best-other : (h : ℕ) → sequences ≤ item lead h → 0 ≡ bestOf worth lead start count sequences h
-  unfolding bestOf
-  best-other h b = sym (cond-no (ltb (item lead h) sequences) (bestStored worth (item start h) (item count h)) 0 (λ t. omega (arith, ltb→lt (item lead h) sequences t)))
-
-  -- where the worths of all sets' moves are stored, those of the first are
-  pub stored-below : {n sets : ℕ} → n ≤ sets → MovesStored worth lead start count sequences sets → MovesStored worth lead start count sequences n
-  stored-below l S = record { some-move = λ h b o. S .some-move h (omega arith) o; stored = λ h b o. S .stored h (omega arith) o }

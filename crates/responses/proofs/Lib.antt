@@ -1,5 +1,11 @@
 pub mod Everywhere
 pub mod Greatest
-pub mod Parts
-pub mod Stored
-pub mod TableLaws
+pub mod LeafLaws
+pub mod LeafReadings
+pub mod Measures
+pub mod MoveLaws
+pub mod Passing
+pub mod SequencesAt
+pub mod SetReadings
+pub mod Sides
+pub mod Walks

@@ -1,4 +1,3 @@
 pub mod BestMoves
-pub mod PlayerTables
 pub mod Responses
-pub mod Stored
+pub mod Worths

@@ -1,22 +1,26 @@
--- A best response against weights by number, over one player's leaves and sets in number slices.
-use Prim.Native.Nat.{ℕ, _≤_}
+-- What a best response over a loaded game needs, and what it gives.
+use Prim.Native.Nat.{ℕ, _<_}
+use mathlib.Core.Path.{_≡_}
 use mathlib.Core.List.{List}
 use lib.IntN.{ℤ}
-use lib.ListN.{length}
-use Rattle.algebra.specs.Arrays.{over}
-use Rattle.slices.specs.Sums.{sumAt, SumsReady}
-use Rattle.responses.specs.PlayerTables.{PlayerTables, tablesFor, Ready}
+use Rattle.algebra.specs.Arrays.{item, over}
+use Rattle.model.specs.Game.{Game, playerOf, other}
+use Rattle.model.specs.BestResponse.{bestCount}
+use Rattle.loaded.specs.Loaded.{Loaded}
+use Rattle.loaded.specs.Weights.{planByNumber, Weights}
+use Rattle.loaded.specs.declared.Counts.{Counts}
+use Rattle.responses.specs.BestMoves.{ownBestMove}
 
--- his tables: the sums of his leaves against y are put over what `sums` held
-abbrev pub tablesAgainst : (leaves sequences sets : ℕ) → (own opponent chance : List ℕ) → (payoffs : List ℤ) → (y head next lead start count node : List ℕ) → (sums : List ℤ) → PlayerTables
-tablesAgainst leaves sequences sets own opponent chance payoffs y head next lead start count node sums = tablesFor sequences sets (over (sumAt opponent chance payoffs y own leaves) sequences sums) head next lead start count node
+-- Some game is loaded, and y has the other player's weights by number.
+pub record ResponseAsked (c : Counts) (numbers : List ℕ) (payoffs : List ℤ) (player : ℕ) (y : List ℕ) : Type 0 where
+  pub game : Game
+  pub loaded : Loaded game c numbers payoffs
+  pub is-player : player < 2
+  pub weights : Weights game (other (playerOf player)) y
 
--- What a best response needs of the slices: that sums and worths can be computed, and room for them and for the moves.
-pub record ResponseReady (leaves sequences sets nodes : ℕ) (own opponent chance : List ℕ) (payoffs : List ℤ) (y head next lead start count node : List ℕ) (sums worth : List ℤ) (moves : List ℕ) : Type 0 where
-  pub leaves-ready : SumsReady leaves sequences own opponent chance payoffs y
-  pub sums-long : sequences ≤ length sums
-  pub head-long : sequences ≤ length head
-  pub lead-long : sets ≤ length lead
-  pub worth-long : sequences ≤ length worth
-  pub moves-long : sets ≤ length moves
-  pub ready : Ready (tablesAgainst leaves sequences sets own opponent chance payoffs y head next lead start count node sums) nodes
+-- The best value, counted over D0 × the other's D, and by set the best moves: of each game that is loaded there.
+abbrev pub ResponseGiven : (c : Counts) → (numbers : List ℕ) → (payoffs : List ℤ) → (player : ℕ) → (y moves₀ moves : List ℕ) → (r : ℤ) → Type 0
+ResponseGiven c numbers payoffs player y moves₀ moves r =
+    (g : Game) → Loaded g c numbers payoffs → Weights g (other (playerOf player)) y →
+    (r ≡ bestCount g (playerOf player) (planByNumber g (other (playerOf player)) (item y)))
+    × (moves ≡ over (ownBestMove g (playerOf player) (planByNumber g (other (playerOf player)) (item y))) (g .sets) moves₀)

@@ -1,42 +1,38 @@
--- What the inner functions of the call leave: the leaves in the order of the table, and a row made from them.
-use Prim.Native.Nat.{ℕ, _≤_, _^_}
+-- What the inner functions of the call leave: the answer, the leaves in the order of the table, and a row made from them.
+use Prim.Native.Nat.{ℕ, zero, suc, _≤_, _<_}
 use mathlib.Core.Path.{_≡_}
+use mathlib.Core.Bool.{Bool, true, false}
 use mathlib.Core.List.{List}
+use lib.Dec.{leb}
+use lib.IntN.{ℤ}
 use lib.ListN.{length}
 use Rattle.model.specs.Limits.{countLimit}
 use Rattle.model.specs.Game.{gameOf}
-use Rattle.model.specs.Table.{TableRow, payoffTable}
-use Rattle.model.specs.Call.{given, refused, afterCall, outcome}
-use Rattle.model.specs.calls.PayoffTable.{payoffRows}
+use Rattle.model.specs.Checks.{gameRefusal}
+use Rattle.model.specs.Table.{payoffTable}
+use Rattle.loaded.specs.Sections.{numbersRoom, payoffsRoom}
 use Rattle.payoff.specs.Table.{Leaves, rowFrom, TableLaid}
 use Rattle.rows.specs.declared.Row.{Row}
 use Rattle.rows.specs.declared.TableAnswer.{TableAnswer}
 use Rattle.rows.specs.declared.TableAnswer.the-variants.{Given, Refused}
 
--- There is room for the leaves of every game.
-pub record Roomy (l : Leaves) : Type 0 where
-  pub first : countLimit ≤ length (l .first)
-  pub second : countLimit ≤ length (l .second)
-  pub chance : countLimit ≤ length (l .chance)
-  pub payoffs1 : countLimit ≤ length (l .payoffs1)
-  pub payoffs2 : countLimit ≤ length (l .payoffs2)
-  pub sorted : countLimit ≤ length (l .sorted)
-  pub bounds : (2 ^ 12) ≤ length (l .bounds)
+-- There is room for every game and the order of its leaves.
+pub record Roomy (numbers : List ℕ) (payoffs : List ℤ) (sorted bounds : List ℕ) : Type 0 where
+  pub numbers-long : numbersRoom ≤ length numbers
+  pub payoffs-long : payoffsRoom ≤ length payoffs
+  pub sorted-long : countLimit ≤ length sorted
+  pub bounds-long : countLimit < length bounds
 
--- The call gives n rows to every buffer of `room` rows, and the leaves are laid out.
-pub record GivesRows (bytes : List ℕ) (room n : ℕ) (l : Leaves) : Type 0 where
-  pub gives : (rows : List TableRow) → length rows ≡ room → outcome (given n) (afterCall 0 (payoffTable (gameOf bytes)) rows, tt) ≡ payoffRows bytes rows
-  pub fit : n ≤ room
-  pub laid : TableLaid (payoffTable (gameOf bytes)) n l
+-- the answer by the number of the game's refusal, 0 being none, by whether there is room for the rows, and by how many there are
+abbrev pub tableAnswer : (refusal : ℕ) → (roomy : Bool) → (rows : ℕ) → TableAnswer
+tableAnswer zero true rows = Given rows
+tableAnswer zero false rows = Refused 18
+tableAnswer (suc k) roomy rows = Refused (suc k)
 
--- It refuses every buffer of `room` rows with this number.
-abbrev pub RefusesRows : List ℕ → (room k : ℕ) → Type 0
-RefusesRows bytes room k = (rows : List TableRow) → length rows ≡ room → outcome (refused k) (rows, tt) ≡ payoffRows bytes rows
-
--- what is known then, by the answer
-abbrev pub TableMade : List ℕ → (room : ℕ) → TableAnswer → Leaves → Type 0
-TableMade bytes room (Given n) l = GivesRows bytes room n l
-TableMade bytes room (Refused k) l = RefusesRows bytes room k
+-- The answer for a game and room for so many rows; and of an accepted game the leaves are laid out.
+pub record TableMade (bytes : List ℕ) (room : ℕ) (r : TableAnswer) (l : Leaves) : Type 0 where
+  pub answer : r ≡ tableAnswer (gameRefusal bytes) (leb (length (payoffTable (gameOf bytes))) room) (length (payoffTable (gameOf bytes)))
+  pub laid : gameRefusal bytes ≡ 0 → TableLaid (payoffTable (gameOf bytes)) (length (payoffTable (gameOf bytes))) l
 
 -- how many rows an answer gives: none where it is a refusal
 abbrev pub rowsGiven : TableAnswer → ℕ
@@ -44,5 +40,5 @@ rowsGiven (Given n) = n
 rowsGiven (Refused k) = 0
 
 -- row k from these leaves
-abbrev pub rowIn : Leaves → (k : ℕ) → Row
-rowIn l k = record { sequence1 = rowFrom l k .sequence1; sequence2 = rowFrom l k .sequence2; sum1 = rowFrom l k .sum1; sum2 = rowFrom l k .sum2 }
+abbrev pub rowMade : Leaves → (k : ℕ) → Row
+rowMade l k = record { sequence1 = rowFrom l k .sequence1; sequence2 = rowFrom l k .sequence2; sum1 = rowFrom l k .sum1; sum2 = rowFrom l k .sum2 }

@@ -3,18 +3,20 @@
 ghost use mathlib.Core.Path.{_≡_};
 ghost use mathlib.Core.List.{map};
 ghost use Prim.Native.Nat.{ℕ, _≤_, _<_};
+ghost use lib.Dec.{leb};
 ghost use lib.ListN.{length};
 ghost use Rattle.algebra.specs.Arrays.{over};
 ghost use Rattle.model.specs.Call.{outcome};
 ghost use Rattle.model.specs.calls.PayoffTable.{payoffRows};
-ghost use Rattle.payoff.specs.Table.{leaves, RowReady};
+ghost use Rattle.payoff.specs.Table.{RowReady};
+ghost use Rattle.payoff.specs.Layout.{leavesIn};
 ghost use Rattle.rows.specs.Answers.{tableAnswered, modelRow};
-ghost use Rattle.rows.specs.Rows.{rowIn, rowsGiven, Roomy, TableMade};
+ghost use Rattle.rows.specs.Rows.{Roomy, tableAnswer, TableMade, rowsGiven, rowMade};
 use checks::Checked;
-use records::NodeRecord;
-
-// Where the leaves of each row begin, and where those of the last end.
-const BOUNDS: usize = NodeRecord::NODES + 1;
+use loaded::Section;
+use payoff::layout::lay_out;
+use payoff::layout::row_sequence;
+use payoff::layout::row_sum;
 
 // How many rows the payoff table has, which stand in what is lent; a refusal is 1 to 13, or 18.
 pub enum TableAnswer {
@@ -30,36 +32,10 @@ pub struct Row {
     pub sum2: i64,
 }
 
-// Checks a game and the room for its rows; the leaves of an accepted game are laid out in the order of its table.
-fn laid_out<'a>(
-    game: &[u8],
-    room: usize,
-    first: &'a mut [usize],
-    second: &'a mut [usize],
-    chance: &'a mut [u64],
-    payoffs1: &'a mut [i16],
-    payoffs2: &'a mut [i16],
-    sorted: &'a mut [usize],
-    bounds: &'a mut [usize],
-) -> TableAnswer
-    requires { ⌜ Roomy (leaves (now first) (now second) (now chance) (now payoffs1) (now payoffs2) (now sorted) (now bounds)) ⌝ }
-    ensures { λ r. ⌜ TableMade (now (game .entry)) room r (leaves (now (first .exit)) (now (second .exit)) (now (chance .exit)) (now (payoffs1 .exit)) (now (payoffs2 .exit)) (now (sorted .exit)) (now (bounds .exit))) ⌝ }
+// The answer for so many rows: given, where there is room for them, or 18.
+fn with_room(rows: usize, room: usize) -> TableAnswer
+    ensures { λ r. ⌜ r ≡ tableAnswer 0 (leb rows room) rows ⌝ }
 {
-    let checked = game::check(game);
-    let game::GameAnswer::Accepted(header) = checked else {
-        return TableAnswer::Refused(game::refusal(checked));
-    };
-    let rows = payoff::layout::lay_out(
-        game,
-        header,
-        first,
-        second,
-        chance,
-        payoffs1,
-        payoffs2,
-        sorted,
-        bounds,
-    );
     let c18 = checks::has_room(rows, room);
     let Checked::Fine = c18 else {
         return TableAnswer::Refused(checks::number(c18));
@@ -67,12 +43,31 @@ fn laid_out<'a>(
     TableAnswer::Given { rows: rows as u64 }
 }
 
+// Loads a game; the leaves of an accepted one are laid out in the order of its table. The answer of a call with room for so many rows.
+pub fn laid_out<'a>(
+    game: &[u8],
+    room: usize,
+    numbers: &'a mut [u16],
+    payoffs: &'a mut [i16],
+    sorted: &'a mut [u16],
+    bounds: &'a mut [u16],
+) -> TableAnswer
+    requires { ⌜ Roomy (now numbers) (now payoffs) (now sorted) (now bounds) ⌝ }
+    ensures { λ r. ⌜ TableMade (now (game .entry)) room r (leavesIn (now (numbers .exit)) (now (payoffs .exit)) (now (sorted .exit)) (now (bounds .exit))) ⌝ }
+{
+    let loaded = game::load(game, numbers, payoffs);
+    let game::LoadAnswer::Loaded(counts) = loaded else {
+        return TableAnswer::Refused(game::load_refusal(loaded));
+    };
+    with_room(lay_out(numbers, counts, sorted, bounds), room)
+}
+
 // How many rows an answer gives.
-fn rows_given(answer: TableAnswer) -> usize
+pub fn rows_given(answer: TableAnswer) -> usize
     ensures { λ r. ⌜ r ≡ rowsGiven answer ⌝ }
 {
     match answer {
-        TableAnswer::Given { rows } => bits::index(rows),
+        TableAnswer::Given { rows } => rows as usize,
         TableAnswer::Refused(_) => 0,
     }
 }
@@ -80,25 +75,21 @@ fn rows_given(answer: TableAnswer) -> usize
 // Row `k`, from its leaves: the pair at which they stand, and each player's sum over them.
 fn row_at<'a>(
     k: usize,
-    first: &'a [usize],
-    second: &'a [usize],
-    chance: &'a [u64],
-    payoffs1: &'a [i16],
-    payoffs2: &'a [i16],
-    sorted: &'a [usize],
-    bounds: &'a [usize],
+    numbers: &'a [u16],
+    payoffs: &'a [i16],
+    sorted: &'a [u16],
+    bounds: &'a [u16],
 ) -> Row
-    requires { ⌜ RowReady (leaves (now first) (now second) (now chance) (now payoffs1) (now payoffs2) (now sorted) (now bounds)) k ⌝ }
-    ensures { λ r. ⌜ r ≡ rowIn (leaves (now (first .entry)) (now (second .entry)) (now (chance .entry)) (now (payoffs1 .entry)) (now (payoffs2 .entry)) (now (sorted .entry)) (now (bounds .entry))) k ⌝ }
+    requires { ⌜ RowReady (leavesIn (now numbers) (now payoffs) (now sorted) (now bounds)) k ⌝ }
+    ensures { λ r. ⌜ r ≡ rowMade (leavesIn (now (numbers .entry)) (now (payoffs .entry)) (now (sorted .entry)) (now (bounds .entry))) k ⌝ }
 {
-    let start = bounds[k];
-    let end = bounds[k + 1];
-    let leaf = sorted[start];
-    let sum1 = payoff::grouping::leaf_sum(start, end, sorted, chance, payoffs1);
-    let sum2 = payoff::grouping::leaf_sum(start, end, sorted, chance, payoffs2);
+    let sequence1 = row_sequence(numbers, Section::LEAF1, sorted, bounds, k);
+    let sequence2 = row_sequence(numbers, Section::LEAF2, sorted, bounds, k);
+    let sum1 = row_sum(numbers, payoffs, Section::PAYOFFS1, sorted, bounds, k);
+    let sum2 = row_sum(numbers, payoffs, Section::PAYOFFS2, sorted, bounds, k);
     Row {
-        sequence1: first[leaf] as u64,
-        sequence2: second[leaf] as u64,
+        sequence1: sequence1 as u64,
+        sequence2: sequence2 as u64,
         sum1,
         sum2,
     }
@@ -108,20 +99,17 @@ fn row_at<'a>(
 fn fill_rows<'a>(
     rows: &mut [Row],
     n: usize,
-    first: &'a [usize],
-    second: &'a [usize],
-    chance: &'a [u64],
-    payoffs1: &'a [i16],
-    payoffs2: &'a [i16],
-    sorted: &'a [usize],
-    bounds: &'a [usize],
+    numbers: &'a [u16],
+    payoffs: &'a [i16],
+    sorted: &'a [u16],
+    bounds: &'a [u16],
 )
-    requires { ⌜ (n ≤ length (now rows)) × ((k : ℕ) → k < n → RowReady (leaves (now first) (now second) (now chance) (now payoffs1) (now payoffs2) (now sorted) (now bounds)) k) ⌝ }
-    ensures { λ _. ⌜ now (rows .exit) ≡ over (rowIn (leaves (now (first .entry)) (now (second .entry)) (now (chance .entry)) (now (payoffs1 .entry)) (now (payoffs2 .entry)) (now (sorted .entry)) (now (bounds .entry)))) n (now (rows .entry)) ⌝ }
+    requires { ⌜ (n ≤ length (now rows)) × ((k : ℕ) → k < n → RowReady (leavesIn (now numbers) (now payoffs) (now sorted) (now bounds)) k) ⌝ }
+    ensures { λ _. ⌜ now (rows .exit) ≡ over (rowMade (leavesIn (now (numbers .entry)) (now (payoffs .entry)) (now (sorted .entry)) (now (bounds .entry)))) n (now (rows .entry)) ⌝ }
 {
     let mut k = 0;
     while k < n {
-        rows[k] = row_at(k, first, second, chance, payoffs1, payoffs2, sorted, bounds);
+        rows[k] = row_at(k, numbers, payoffs, sorted, bounds);
         k += 1;
     }
 }
@@ -130,32 +118,23 @@ fn fill_rows<'a>(
 pub fn payoff_rows(game: &[u8], rows: &mut [Row]) -> TableAnswer
     ensures { λ r. ⌜ outcome (tableAnswered r) (map modelRow (now (rows .exit)), tt) ≡ payoffRows (now (game .entry)) (map modelRow (now (rows .entry))) ⌝ }
 {
-    let mut first = [0usize; NodeRecord::NODES];
-    let mut second = [0usize; NodeRecord::NODES];
-    let mut chance = [0u64; NodeRecord::NODES];
-    let mut payoffs1 = [0i16; NodeRecord::NODES];
-    let mut payoffs2 = [0i16; NodeRecord::NODES];
-    let mut sorted = [0usize; NodeRecord::NODES];
-    let mut bounds = [0usize; BOUNDS];
+    let mut numbers = [0u16; Section::NUMBERS];
+    let mut payoffs = [0i16; Section::PAYOFFS];
+    let mut sorted = [0u16; Section::ROOM];
+    let mut bounds = [0u16; Section::ROOM];
     let answer = laid_out(
         game,
         rows.len(),
-        &mut first,
-        &mut second,
-        &mut chance,
-        &mut payoffs1,
-        &mut payoffs2,
+        &mut numbers,
+        &mut payoffs,
         &mut sorted,
         &mut bounds,
     );
     fill_rows(
         rows,
         rows_given(answer),
-        &first,
-        &second,
-        &chance,
-        &payoffs1,
-        &payoffs2,
+        &numbers,
+        &payoffs,
         &sorted,
         &bounds,
     );

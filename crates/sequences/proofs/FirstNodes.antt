@@ -1,35 +1,23 @@
 -- Laws of the sets' first nodes, which are found from the last node to the first, and of check 12.
 use Prim.Native.Nat.{ℕ, suc, _+_, _-_, _≤_, _<_}
-use mathlib.Core.Path.{_≡_, sym, ap, _∙_}
+use mathlib.Core.Path.{_≡_, sym, _∙_}
 use mathlib.Core.Bool.{Bool, true, false, cond}
 use mathlib.Core.List.{List}
 use native.Mathlib.Omega.{arith}
 use native.Mathlib.Nat.{zero-add, add-zero, sub-zero}
 use lib.Dec.{T, eqb, eqb→eq, ltb}
-use lib.ListN.{length, getD, set}
+use lib.ListN.{set}
 use mir.Facts.{and-yes, yes-and}
+use Rattle.algebra.specs.Arrays.{item}
 use Rattle.algebra.specs.Bounded.{anyTo, firstTo}
-use Rattle.algebra.specs.Arrays.{over}
+use Rattle.algebra.specs.Sections.{Held}
 use Rattle.algebra.proofs.Tests.{cond-yes, cond-no, eqb-make}
 use Rattle.algebra.proofs.Searches.{firstTo-bound, firstTo-below}
-use Rattle.algebra.proofs.Fillings.{over-at, over-cong, over-again, over-set}
-use Rattle.model.specs.Game.{Game, gameOf, isDecision, inSet}
+use Rattle.algebra.proofs.Sections.{held-put, held-as}
+use Rattle.model.specs.Game.{Game, isDecision, inSet}
 use Rattle.model.specs.Sequences.{firstNode}
-use Rattle.records.specs.declared.game.NodeRecord.{NodeRecord}
-use Rattle.records.specs.Records.{NodeRead}
-use Rattle.records.specs.Rooted.{Rooted}
-
--- node n is a decision, and its set is h
-pub record Decision (g : Game) (n h : ℕ) : Type 0 where
-  pub kind : g .kind n ≡ 1
-  pub set : h ≡ g .nodeSet n
-  pub below : h < g .sets
-
--- as its record says
-pub decision-read : (bytes : List ℕ) (n : ℕ) (r : NodeRecord) → Rooted (gameOf bytes) → NodeRead bytes n r → n < gameOf bytes .nodes → r .kind ≡ 1 → Decision (gameOf bytes) n (r .payload .set)
-decision-read bytes n r R N l e =
-    let k : gameOf bytes .kind n ≡ 1 = omega (arith, N .kind) in
-    record { kind = k; set = N .set e; below = omega (arith, N .set e, R .decision-set n l k) }
+use Rattle.loaded.specs.Sections.{firstNodeSection}
+use Rattle.sequences.proofs.Nodes.{Decision, is-decision}
 
 module _ (g : Game) where
   -- the first node of set h from `left` on; N where there is none
@@ -68,48 +56,38 @@ module _ (g : Game) where
 
   -- it is the first of its own set
   from-own : (left h : ℕ) → left < g .nodes → Decision g left h → firstFrom left h ≡ left
-  unfolding inSet isDecision
+  unfolding inSet
   from-own left h l D =
       from-step left h l
-      ∙ cond-yes (inSet g h left) left (firstFrom (left + 1) h) (yes-and (isDecision g left) (eqb (g .nodeSet left) h) (eqb-make (g .kind left) 1 (D .kind)) (eqb-make (g .nodeSet left) h (sym (D .set))))
+      ∙ cond-yes (inSet g h left) left (firstFrom (left + 1) h) (yes-and (isDecision g left) (eqb (g .nodeSet left) h) (is-decision g left (D .kind)) (eqb-make (g .nodeSet left) h (sym (D .set))))
 
   -- and changes nothing of another
   from-other : (left h : ℕ) → left < g .nodes → ¬ T (inSet g h left) → firstFrom (left + 1) h ≡ firstFrom left h
   from-other left h l other = sym (from-step left h l ∙ cond-no (inSet g h left) left (firstFrom (left + 1) h) other)
 
-  -- an array of N has the first nodes with no node left
-  pub firsts-none : (n v left : ℕ) (a l : List ℕ) → a ≡ over (λ h. v) n l → n ≤ length l → v ≡ g .nodes → left ≡ g .nodes → a ≡ over (firstFrom left) n a
-  firsts-none n v left a l q b e d =
-      q
-      ∙ over-cong (λ h. v) (firstFrom left) n l (λ h s. e ∙ sym (rw d (from-end h)))
-      ∙ sym (over-again 0 (λ h. v) (firstFrom left) n l b)
-      ∙ ap (over (firstFrom left) n) (sym q)
+  module _ {from n : ℕ} where
+    -- a section of N has the first nodes with no node left
+    pub firsts-none : (v left : ℕ) {l : List ℕ} → Held from (λ h. v) n l → v ≡ g .nodes → left ≡ g .nodes → Held from (firstFrom left) n l
+    firsts-none v left H e d = held-as (firstFrom left) H (λ h s. e ∙ sym (rw d (from-end h)))
 
-  -- a decision is put into its set's place
-  pub firsts-own : (n left next h x : ℕ) (a l : List ℕ) → Decision g left h → a ≡ over (firstFrom next) n l → g .sets ≤ n → n ≤ length l → next ≡ left + 1 → next ≤ g .nodes → x ≡ left → set a h x ≡ over (firstFrom left) n l
-  unfolding inSet
-  firsts-own n left next h x a l D q s b e f v =
-      rw (q, e)
-      (over-set 0 (firstFrom (left + 1)) (firstFrom left) n l h x b (omega (arith, D .below)) (v ∙ sym (from-own left h (omega arith) D))
-      (λ i c. from-other left i (omega arith) (λ t. c (sym (D .set ∙ eqb→eq (g .nodeSet left) i (and-yes (isDecision g left) (eqb (g .nodeSet left) i) t .1))))))
+    -- a decision is put into its set's place
+    pub firsts-own : (left next h x : ℕ) {l k : List ℕ} → Decision g left h → Held from (firstFrom next) n l → k ≡ set l (from + h) x → h < n → next ≡ left + 1 → next ≤ g .nodes → x ≡ left → Held from (firstFrom left) n k
+    unfolding inSet
+    firsts-own left next h x D H e b s f v =
+        held-put (firstFrom left) h x H e b (v ∙ sym (from-own left h (omega arith) D))
+        (λ i w c. rw s (from-other left i (omega arith) (λ t. c (sym (D .set ∙ eqb→eq (g .nodeSet left) i (and-yes (isDecision g left) (eqb (g .nodeSet left) i) t .1))))))
 
-  -- any other node changes nothing
-  pub firsts-other : (n left next : ℕ) (a l : List ℕ) → ¬ (g .kind left ≡ 1) → a ≡ over (firstFrom next) n l → next ≡ left + 1 → next ≤ g .nodes → a ≡ over (firstFrom left) n l
-  unfolding inSet isDecision
-  firsts-other n left next a l d q e f =
-      q
-      ∙ rw e (over-cong (firstFrom (left + 1)) (firstFrom left) n l (λ h w. from-other left h (omega arith) (λ t. d (eqb→eq (g .kind left) 1 (and-yes (eqb (g .kind left) 1) (eqb (g .nodeSet left) h) t .0)))))
+    -- any other node changes nothing
+    pub firsts-other : (left next : ℕ) {l : List ℕ} → ¬ (g .kind left ≡ 1) → Held from (firstFrom next) n l → next ≡ left + 1 → next ≤ g .nodes → Held from (firstFrom left) n l
+    unfolding inSet isDecision
+    firsts-other left next d H s f =
+        held-as (firstFrom left) H (λ h w. rw s (from-other left h (omega arith) (λ t. d (eqb→eq (g .kind left) 1 (and-yes (eqb (g .kind left) 1) (eqb (g .nodeSet left) h) t .0)))))
 
-  -- with every node the array has the sets' first nodes
-  pub firsts-all : (n v left : ℕ) (a c l : List ℕ) → c ≡ over (λ h. v) n l → a ≡ over (firstFrom left) n c → n ≤ length l → n ≡ g .sets → left ≡ 0 → a ≡ over (firstNode g) (g .sets) l
-  firsts-all n v left a c l d q b e z =
-      q
-      ∙ ap (over (firstFrom left) n) d
-      ∙ over-again 0 (λ h. v) (firstFrom left) n l b
-      ∙ over-cong (firstFrom left) (firstNode g) n l (λ h s. rw z (from-start h))
-      ∙ ap (λ (k : ℕ). over (firstNode g) k l) e
+    -- with every node the section has the sets' first nodes
+    pub firsts-all : (left : ℕ) {l : List ℕ} → Held from (firstFrom left) n l → left ≡ 0 → Held from (firstNode g) n l
+    firsts-all left H z = held-as (firstNode g) H (λ h s. rw z (from-start h))
 
   -- where it does, check 12 tests a set by its entry
-  pub has-node : (h v : ℕ) (a l : List ℕ) → a ≡ over (firstNode g) (g .sets) l → h < g .sets → v ≡ g .nodes → ltb (getD a h 0) v ≡ anyTo (g .nodes) (inSet g h)
+  pub has-node : (h v first : ℕ) {l : List ℕ} → Held firstNodeSection (firstNode g) (g .sets) l → h < g .sets → v ≡ g .nodes → first ≡ item l (firstNodeSection + h) → ltb first v ≡ anyTo (g .nodes) (inSet g h)
   unfolding firstNode
-  has-node h v a l q b e = rw (q, over-at 0 (firstNode g) (g .sets) l h b, e) (firstTo-below (g .nodes) (inSet g h))
+  has-node h v first H b e r = rw (r ∙ H .at 0 h b, e) (firstTo-below (g .nodes) (inSet g h))

@@ -1,6 +1,9 @@
+mod Few
 mod FirstNodes
 mod FirstSequences
-pub mod Leading
+mod Leading
+mod Nodes
 mod Own
 pub mod OwnSets
 mod Recalls
+pub mod Stored

@@ -1,34 +1,34 @@
--- Last own moves, their numbers, and the test of check 13 for one node.
-use Prim.Native.Nat.{ℕ, _+_, _≤_, _<_}
+-- Where own numbers stand among the sections, and the test of check 13 for one node.
+use Prim.Native.Nat.{ℕ}
 use mathlib.Core.Bool.{Bool}
 use mathlib.Core.List.{List}
-use lib.ListN.{length, getD}
-use lib.Dec.{eqb}
+use lib.Dec.{T, eqb}
 use Rattle.algebra.specs.Bounded.{implies}
-use Rattle.model.specs.Game.{Game, Player}
-use Rattle.model.specs.Sequences.{Move, Sequence, byLastMove, acts, firstNode}
+use Rattle.algebra.specs.Sections.{Held}
+use Rattle.model.specs.Game.{Game, Player, isDecision}
+use Rattle.model.specs.Sequences.{firstNode, leadingNumber}
+use Rattle.model.specs.GameChecks.{setsNonEmpty}
 use Rattle.model.specs.Table.{ownNumber}
-use Rattle.sequences.specs.declared.LastMove.{LastMove}
-use Rattle.sequences.specs.declared.LastMove.the-variants.{Empty, Made}
+use Rattle.loaded.specs.Sections.{firstNodeSection, startSection, ownSection}
+use Rattle.loaded.specs.Rooted.{Rooted}
+use Rattle.loaded.specs.Sets.{firstSequence}
+use Rattle.loaded.specs.Loaded.{Decoded}
 
--- a sequence's last move
-unfoldable pub lastOf : Sequence → LastMove
-lastOf s = byLastMove Empty (λ (x : Move). Made (x .0) (x .1)) s
+-- The sections hold game g, the numbers of its sets' first sequences, and those of p's own sequences to the first `stored` nodes.
+pub record OwnStored (g : Game) (p : Player) (stored : ℕ) (numbers : List ℕ) : Type 0 where
+  pub decoded : Decoded g numbers
+  pub rooted : Rooted g
+  pub starts : Held startSection (firstSequence g) (g .sets) numbers
+  pub own : Held (ownSection p) (ownNumber g p) stored numbers
 
--- the number of the sequence with this last move, by the numbers of the sets' first sequences
-abbrev pub numberOf : LastMove → List ℕ → ℕ
-numberOf Empty starts = 0
-numberOf (Made set place) starts = getD starts set 0 + place
+-- The sections hold game g, its sets' first nodes, which each has, and the numbers of both players' own sequences to all nodes.
+pub record OwnFilled (g : Game) (numbers : List ℕ) : Type 0 where
+  pub decoded : Decoded g numbers
+  pub rooted : Rooted g
+  pub sets-non-empty : T (setsNonEmpty g)
+  pub first-nodes : Held firstNodeSection (firstNode g) (g .sets) numbers
+  pub own : (p : Player) → Held (ownSection p) (ownNumber g p) (g .nodes) numbers
 
--- the list has the set, and its number and the place are small enough for their sum not to wrap
-abbrev pub Numberable : LastMove → List ℕ → Type 0
-Numberable Empty starts = Unit {0}
-Numberable (Made set place) starts = (set < length starts) × (getD starts set 0 ≤ 1000000) × (place < 64)
-
--- where p moves at node n, his own sequence number is that of the set's first node
-unfoldable pub recallTest : Game → Player → ℕ → Bool
-recallTest g p n = implies (acts g p n) (eqb (ownNumber g p n) (ownNumber g p (firstNode g (g .nodeSet n))))
-
--- the number stored for the first node stored for set h: where the lists hold first nodes and own numbers, that of the sequence leading to the set
-abbrev pub leadingStored : (first own : List ℕ) → (h : ℕ) → ℕ
-leadingStored first own h = getD own (getD first h 0) 0
+-- where node n is a decision, the own number of its set's player there is that of the sequence leading to the set
+unfoldable pub recallTest : Game → (n : ℕ) → Bool
+recallTest g n = implies (isDecision g n) (eqb (ownNumber g (g .setPlayer (g .nodeSet n)) n) (leadingNumber g (g .nodeSet n)))

@@ -1,13 +1,17 @@
--- The number of a set's first sequence, and how many sequences there are.
-use Prim.Native.Nat.{ℕ}
+-- How many sequences there are, and what makes them few.
+use lib.Dec.{T}
 use Rattle.model.specs.Game.{Game, one, two}
-use Rattle.model.specs.Sequences.{moveNumber, sequenceCount}
+use Rattle.model.specs.Sequences.{sequenceCount}
+use Rattle.model.specs.GameChecks.{movesLeadOn, setsNonEmpty}
+use Rattle.loaded.specs.Rooted.{Rooted}
 use Rattle.sequences.specs.declared.SequenceCounts.{SequenceCounts}
 
--- the number of the sequence that ends in move 0 of set h
-unfoldable pub firstSequence : Game → ℕ → ℕ
-firstSequence g h = moveNumber g (g .setPlayer h) (h, 0)
-
 -- how many sequences each player has
-unfoldable pub countsOf : Game → SequenceCounts
-countsOf g = record { first = sequenceCount g one; second = sequenceCount g two }
+unfoldable pub sequenceCounts : Game → SequenceCounts
+sequenceCounts g = record { first = sequenceCount g one; second = sequenceCount g two }
+
+-- What checks 8, 9 and 12 have shown: a player then has no more sequences than there are nodes, so that their numbers fit 16 bits.
+pub record Numberable (g : Game) : Type 0 where
+  pub rooted : Rooted g
+  pub moves-lead-on : T (movesLeadOn g)
+  pub sets-non-empty : T (setsNonEmpty g)

@@ -3,16 +3,15 @@ pub mod lookup;
 pub mod recall;
 pub mod sets;
 
-// A player's last own move on the way to a node: none, or a set with a move.
-pub enum LastMove {
-    Empty,
-    Made(usize, usize),
-}
+use records::Payload;
+
+// The kind of a decision, as the section of kinds has it.
+const DECISION: usize = Payload::DECISION as usize;
 
 // How many sequences each player has.
 pub struct SequenceCounts {
-    pub first: u64,
-    pub second: u64,
+    pub first: usize,
+    pub second: usize,
 }
 
 // The own sequence that leads to a set, by its number.

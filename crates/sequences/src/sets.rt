@@ -1,67 +1,62 @@
-// Information sets: their first nodes, the numbers of their first sequences, and check 12.
+// Information sets: their first nodes, the numbers of their first sequences and of those that lead to them, and check 12.
 ghost use mathlib.Core.Path.{_≡_};
-ghost use Prim.Native.Nat.{_≤_};
+ghost use Prim.Native.Nat.{_+_, _≤_, _<_};
 ghost use lib.ListN.{length};
-ghost use Rattle.algebra.specs.Arrays.{over};
-ghost use Rattle.model.specs.Game.{gameOf, one, two};
-ghost use Rattle.model.specs.Sequences.{firstNode, sequenceCount};
+ghost use Rattle.algebra.specs.Sections.{Held, Apart};
+ghost use Rattle.model.specs.Game.{Game, one};
+ghost use Rattle.model.specs.Sequences.{firstNode, leadingNumber};
 ghost use Rattle.model.specs.GameChecks.{setsNonEmpty};
 ghost use Rattle.checks.specs.Checked.{checkedOf};
-ghost use Rattle.records.specs.Records.{Framed};
-ghost use Rattle.records.specs.Rooted.{Rooted};
-ghost use Rattle.sequences.specs.Sets.{firstSequence};
+ghost use Rattle.loaded.specs.Sections.{firstNodeSection, startSection, ownSection, leadSection, orderSection};
+ghost use Rattle.loaded.specs.Rooted.{Rooted};
+ghost use Rattle.loaded.specs.Sets.{firstSequence};
+ghost use Rattle.loaded.specs.Loaded.{Decoded, RootedIn};
+ghost use Rattle.sequences.specs.Sets.{sequenceCounts, Numberable};
+ghost use Rattle.sequences.specs.Recall.{OwnFilled};
+use super::DECISION;
 use super::SequenceCounts;
+use super::recall;
 use checks::Checked;
-use records::NodeRecord;
-use records::Payload;
-use records::SetEntry;
+use loaded::Section;
 
-// Puts `value` into the first `count` places.
-fn fill(out: &mut [u64], count: usize, value: u64)
-    requires { ⌜ count ≤ length (now out) ⌝ }
-    ensures { λ _. ⌜ now (out .exit) ≡ over (λ i. value) count (now (out .entry)) ⌝ }
+// Puts `value` into the first `count` places of the section that begins at `section`.
+fn fill(numbers: &mut [u16], section: usize, count: usize, value: usize)
+    requires { ⌜ (section + count ≤ length (now numbers)) × (value < 65536) ⌝ }
+    ensures { λ _. ⌜ Held section (λ i. value) count (now (numbers .exit)) × Apart section (section + count) (now (numbers .entry)) (now (numbers .exit)) ⌝ }
 {
     let mut i = 0;
     while i < count {
-        out[i] = value;
+        loaded::put(numbers, section, i, value);
         i += 1;
     }
 }
 
-// A number as a value to store.
-fn wide(x: usize) -> u64
-    ensures { λ r. ⌜ r ≡ x ⌝ }
-{
-    x as u64
-}
-
 // The first node of each set, by one pass from the last node to the first; N where a set has none.
-pub fn first_nodes(bytes: &[u8], records: usize, nodes: usize, sets: usize, first: &mut [u64])
-    requires { ⌜ Framed (now bytes) records nodes × Rooted (gameOf (now bytes)) × (sets ≡ gameOf (now bytes) .sets) × (sets ≤ length (now first)) ⌝ }
-    ensures { λ _. ⌜ now (first .exit) ≡ over (firstNode (gameOf (now (bytes .entry)))) (gameOf (now (bytes .entry)) .sets) (now (first .entry)) ⌝ }
+pub fn first_nodes(numbers: &mut [u16], nodes: usize, sets: usize)
+    requires { ⌜ RootedIn nodes sets (now numbers) ⌝ }
+    ensures { λ _. ⌜ ((g : Game) → nodes ≡ g .nodes → sets ≡ g .sets → Decoded g (now (numbers .entry)) → Rooted g → Held firstNodeSection (firstNode g) (g .sets) (now (numbers .exit))) × Apart firstNodeSection startSection (now (numbers .entry)) (now (numbers .exit)) ⌝ }
 {
-    fill(first, sets, wide(nodes));
+    fill(numbers, Section::FIRST_NODE, sets, nodes);
     let mut left = nodes;
     while 0 < left {
         left -= 1;
-        let node = NodeRecord::read(bytes, records, left);
-        if node.kind == Payload::DECISION {
-            let set = node.payload.set;
-            first[set] = wide(left);
+        let kind = loaded::number(numbers, Section::KIND, left);
+        if kind == DECISION {
+            let set = loaded::number(numbers, Section::PAYLOAD, left);
+            loaded::put(numbers, Section::FIRST_NODE, set, left);
         }
     }
 }
 
-// Check 12.
-pub fn sets_non_empty(bytes: &[u8], records: usize, nodes: usize, sets: usize) -> Checked
-    requires { ⌜ Framed (now bytes) records nodes × Rooted (gameOf (now bytes)) × (sets ≡ gameOf (now bytes) .sets) ⌝ }
-    ensures { λ r. ⌜ r ≡ checkedOf 12 (setsNonEmpty (gameOf (now (bytes .entry)))) ⌝ }
+// Check 12: each set's first node is a node.
+pub fn sets_non_empty(numbers: &[u16], nodes: usize, sets: usize) -> Checked
+    requires { ⌜ RootedIn nodes sets (now numbers) ⌝ }
+    ensures { λ r. ⌜ ((g : Game) → nodes ≡ g .nodes → sets ≡ g .sets → Held firstNodeSection (firstNode g) (g .sets) (now (numbers .entry)) → r ≡ checkedOf 12 (setsNonEmpty g)) ⌝ }
 {
-    let mut first = [0u64; NodeRecord::NODES];
-    first_nodes(bytes, records, nodes, sets, &mut first);
     let mut h = 0;
     while h < sets {
-        if first[h] < wide(nodes) {
+        let first = loaded::number(numbers, Section::FIRST_NODE, h);
+        if first < nodes {
             h += 1;
         } else {
             return Checked::Broken(12);
@@ -72,22 +67,35 @@ pub fn sets_non_empty(bytes: &[u8], records: usize, nodes: usize, sets: usize) -
 
 // The number of the first sequence of each set: 1, and the moves of its player's earlier sets.
 // `next` has the number that the next sequence of either player gets: after the last set, how many there are.
-pub fn first_sequences(bytes: &[u8], sets: usize, out: &mut [u64]) -> SequenceCounts
-    requires { ⌜ (sets ≡ gameOf (now bytes) .sets) × (sets ≤ length (now out)) ⌝ }
-    ensures { λ r. ⌜ (now (out .exit) ≡ over (firstSequence (gameOf (now (bytes .entry)))) (gameOf (now (bytes .entry)) .sets) (now (out .entry))) × (r .first ≡ sequenceCount (gameOf (now (bytes .entry))) one) × (r .second ≡ sequenceCount (gameOf (now (bytes .entry))) two) ⌝ }
+pub fn first_sequences(numbers: &mut [u16], sets: usize) -> SequenceCounts
+    requires { ⌜ ((g : Game) × (sets ≡ g .sets) × Decoded g (now numbers) × Numberable g) ⌝ }
+    ensures { λ r. ⌜ ((g : Game) → sets ≡ g .sets → Decoded g (now (numbers .entry)) → (r ≡ sequenceCounts g) × Held startSection (firstSequence g) (g .sets) (now (numbers .exit))) × Apart startSection (ownSection one) (now (numbers .entry)) (now (numbers .exit)) ⌝ }
 {
-    let mut next = [1u64; 2];
+    let mut next = [1usize; 2];
     let mut h = 0;
     while h < sets {
-        let entry = SetEntry::read(bytes, h);
-        let player = bits::index(entry.player);
+        let player = loaded::number(numbers, Section::PLAYER, h);
+        let moves = loaded::number(numbers, Section::MOVES, h);
         let start = next[player];
-        out[h] = start;
-        next[player] = start + wide(entry.moves);
+        loaded::put(numbers, Section::START, h, start);
+        next[player] = start + moves;
         h += 1;
     }
     SequenceCounts {
         first: next[0],
         second: next[1],
+    }
+}
+
+// The number of the sequence that leads to each set.
+pub fn leads(numbers: &mut [u16], sets: usize)
+    requires { ⌜ ((g : Game) × (sets ≡ g .sets) × OwnFilled g (now numbers)) ⌝ }
+    ensures { λ _. ⌜ ((g : Game) → sets ≡ g .sets → OwnFilled g (now (numbers .entry)) → Held leadSection (leadingNumber g) (g .sets) (now (numbers .exit))) × Apart leadSection orderSection (now (numbers .entry)) (now (numbers .exit)) ⌝ }
+{
+    let mut h = 0;
+    while h < sets {
+        let lead = recall::lead_of(numbers, h);
+        loaded::put(numbers, Section::LEAD, h, lead);
+        h += 1;
     }
 }

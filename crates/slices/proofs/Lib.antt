@@ -1,3 +1,3 @@
 pub mod ChainLaws
+pub mod Firsts
 pub mod Products
-pub mod SumLoops

@@ -8,7 +8,6 @@ use mir.Syntax.{w16, w64}
 use mir.Val.{SFits, toZ, ofZ}
 use mir.Facts.{toZ-ofZ}
 use Rattle.algebra.proofs.Ranges.{abs-scale, sfits-abs}
-use Rattle.model.specs.Limits.{countLimit}
 
 -- a number of 16 bits is at most 32,768 in size
 size-16 : (z : ℤ) → SFits w16 z → natAbs z ≤ 32768
@@ -19,12 +18,18 @@ size-16 (negsuc n) f = omega (arith, f .sfits)
 pub weighed-fits : (w : ℕ) (z : ℤ) → w < 2 ^ 48 → SFits w16 z → SFits w64 (pos w *ℤ z)
 weighed-fits w z l f = let b : w ≤ 281474976710655 = omega arith in sfits-abs w64 (pos w *ℤ z) (omega (arith, abs-scale w z, NatL.mul-le-mul b (size-16 z f)))
 
--- a chance weight times one weight of 16 bits, and times two
-pub one-weight : {a b : ℕ} → a ≤ countLimit → b ≤ 65535 → a * b ≤ 268365825
-one-weight h k = NatL.mul-le-mul h k
+-- the product of two weights of 16 bits
+pub two-weights : {a b : ℕ} → a < 65536 → b < 65536 → a * b ≤ 4294836225
+two-weights {a} {b} h k =
+    let u : a ≤ 65535 = omega arith in
+    let v : b ≤ 65535 = omega arith in
+    NatL.mul-le-mul u v
 
-pub two-weights : {a b c : ℕ} → a ≤ countLimit → b ≤ 65535 → c ≤ 65535 → a * b * c ≤ 17587354341375
-two-weights h k l = NatL.mul-le-mul (NatL.mul-le-mul h k) l
+-- and of three
+pub three-weights : {a b c : ℕ} → a < 65536 → b < 65536 → c < 65536 → a * b * c ≤ 281462092005375
+three-weights {c = c} h k l =
+    let v : c ≤ 65535 = omega arith in
+    NatL.mul-le-mul (two-weights h k) v
 
 -- a sum in range, of numbers as they are read
 pub added-fits : (a b u v : ℤ) → SFits w64 (a +ℤ b) → u ≡ a → v ≡ b → SFits w64 (u +ℤ v)

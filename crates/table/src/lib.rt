@@ -1,81 +1,75 @@
-// The payoff table of a game into lent buffers, one a column. It is made as rows, which are then taken apart.
-// Only the call itself, which lends the rows, has a proof that walks its code by hand.
+// The payoff table of a game into lent buffers, one a column.
 ghost use mathlib.Core.Path.{_≡_};
-ghost use Prim.Native.Nat.{_≤_};
+ghost use mathlib.Core.Bool.{_&&_};
 ghost use mathlib.Core.List.{[], _∷_};
-ghost use Rattle.model.specs.Limits.{countLimit};
+ghost use Prim.Native.Nat.{ℕ, _≤_, _<_};
+ghost use lib.Dec.{leb};
+ghost use lib.ListN.{length};
+ghost use Rattle.algebra.specs.Arrays.{over};
+ghost use Rattle.model.specs.Game.{one, two};
 ghost use Rattle.model.specs.Call.{longEnough, outcome};
 ghost use Rattle.model.specs.calls.PayoffTable.{payoffColumns};
-ghost use Rattle.checks.specs.Checked.{checkedOf};
+ghost use Rattle.loaded.specs.Sections.{leafSection, payoffSection};
+ghost use Rattle.payoff.specs.Layout.{sequenceAt, SequenceReady, sumAt, SumReady};
 ghost use Rattle.rows.specs.Answers.{tableAnswered};
-ghost use Rattle.rows.specs.Rows.{rowsGiven};
-ghost use Rattle.table.specs.Tables.{columns, Copyable, takenApart, spreadOver};
-use checks::Checked;
-use records::NodeRecord;
-use rows::Row;
+use loaded::Section;
+use payoff::layout::row_sequence;
+use payoff::layout::row_sum;
 use rows::TableAnswer;
 
-// As many rows as the longest table has.
-const ROWS: usize = NodeRecord::NODES;
+// The shorter of two lengths.
+fn shorter(first: usize, second: usize) -> usize
+    ensures { λ r. ⌜ ((n : ℕ) → leb n r ≡ (leb n first && leb n second)) ⌝ }
+{
+    if first <= second { first } else { second }
+}
 
-// Takes the first `n` rows apart, each number into its column.
-fn take_apart(
-    rows: [Row; ROWS],
+// The length of the shortest of four columns: so many rows fit it as fit each of them.
+fn shortest(sequence1: usize, sequence2: usize, sum1: usize, sum2: usize) -> usize
+    ensures { λ r. ⌜ ((n : ℕ) → leb n r ≡ longEnough (n ∷ n ∷ n ∷ n ∷ []) (sequence1 ∷ sequence2 ∷ sum1 ∷ sum2 ∷ [])) ⌝ }
+{
+    shorter(sequence1, shorter(sequence2, shorter(sum1, sum2)))
+}
+
+// The sequences of the first `n` rows, each player's into his column.
+fn sequences(
     n: usize,
+    numbers: &[u16],
+    sorted: &[u16],
+    bounds: &[u16],
     sequence1: &mut [u64],
     sequence2: &mut [u64],
-    sum1: &mut [i64],
-    sum2: &mut [i64],
 )
-    requires { ⌜ (n ≤ countLimit) × Copyable n (columns (now sequence1) (now sequence2) (now sum1) (now sum2)) ⌝ }
-    ensures { λ _. ⌜ columns (now (sequence1 .exit)) (now (sequence2 .exit)) (now (sum1 .exit)) (now (sum2 .exit)) ≡ takenApart n rows (columns (now (sequence1 .entry)) (now (sequence2 .entry)) (now (sum1 .entry)) (now (sum2 .entry))) ⌝ }
+    requires { ⌜ (n ≤ length (now sequence1)) × (n ≤ length (now sequence2)) × ((k : ℕ) → k < n → SequenceReady (leafSection one) (now numbers) (now sorted) (now bounds) k × SequenceReady (leafSection two) (now numbers) (now sorted) (now bounds) k) ⌝ }
+    ensures { λ _. ⌜ (now (sequence1 .exit) ≡ over (sequenceAt (leafSection one) (now (numbers .entry)) (now (sorted .entry)) (now (bounds .entry))) n (now (sequence1 .entry))) × (now (sequence2 .exit) ≡ over (sequenceAt (leafSection two) (now (numbers .entry)) (now (sorted .entry)) (now (bounds .entry))) n (now (sequence2 .entry))) ⌝ }
 {
     let mut k = 0;
     while k < n {
-        let row = rows[k];
-        let worth1 = row.sum1;
-        let worth2 = row.sum2;
-        sequence1[k] = row.sequence1;
-        sequence2[k] = row.sequence2;
-        sum1[k] = worth1;
-        sum2[k] = worth2;
+        sequence1[k] = row_sequence(numbers, Section::LEAF1, sorted, bounds, k) as u64;
+        sequence2[k] = row_sequence(numbers, Section::LEAF2, sorted, bounds, k) as u64;
         k += 1;
     }
 }
 
-// Check 18: whether the buffers have room for `n` rows, by their lengths alone.
-fn has_room(n: usize, sequence1: usize, sequence2: usize, sum1: usize, sum2: usize) -> Checked
-    ensures { λ r. ⌜ r ≡ checkedOf 18 (longEnough (n ∷ n ∷ n ∷ n ∷ []) (sequence1 ∷ sequence2 ∷ sum1 ∷ sum2 ∷ [])) ⌝ }
-{
-    let ok = checks::room_and(n, sum2, true);
-    let ok = checks::room_and(n, sum1, ok);
-    let ok = checks::room_and(n, sequence2, ok);
-    let ok = checks::room_and(n, sequence1, ok);
-    checks::check(18, ok)
-}
-
-// The rows that an answer gives, over the columns; a refusal as it is.
-fn spread(
-    answer: TableAnswer,
-    rows: [Row; ROWS],
-    sequence1: &mut [u64],
-    sequence2: &mut [u64],
+// The sums of the first `n` rows, each player's into his column.
+fn sums(
+    n: usize,
+    numbers: &[u16],
+    payoffs: &[i16],
+    sorted: &[u16],
+    bounds: &[u16],
     sum1: &mut [i64],
     sum2: &mut [i64],
-) -> TableAnswer
-    requires { ⌜ rowsGiven answer ≤ countLimit ⌝ }
-    ensures { λ r. ⌜ outcome (tableAnswered r) (now (sequence1 .exit), (now (sequence2 .exit), (now (sum1 .exit), (now (sum2 .exit), tt)))) ≡ spreadOver answer rows (columns (now (sequence1 .entry)) (now (sequence2 .entry)) (now (sum1 .entry)) (now (sum2 .entry))) ⌝ }
+)
+    requires { ⌜ (n ≤ length (now sum1)) × (n ≤ length (now sum2)) × ((k : ℕ) → k < n → SumReady (payoffSection one) (now numbers) (now payoffs) (now sorted) (now bounds) k × SumReady (payoffSection two) (now numbers) (now payoffs) (now sorted) (now bounds) k) ⌝ }
+    ensures { λ _. ⌜ (now (sum1 .exit) ≡ over (sumAt (payoffSection one) (now (numbers .entry)) (now (payoffs .entry)) (now (sorted .entry)) (now (bounds .entry))) n (now (sum1 .entry))) × (now (sum2 .exit) ≡ over (sumAt (payoffSection two) (now (numbers .entry)) (now (payoffs .entry)) (now (sorted .entry)) (now (bounds .entry))) n (now (sum2 .entry))) ⌝ }
 {
-    let TableAnswer::Given { rows: count } = answer else {
-        return answer;
-    };
-    let n = count as usize;
-    let c18 = has_room(n, sequence1.len(), sequence2.len(), sum1.len(), sum2.len());
-    let Checked::Fine = c18 else {
-        return TableAnswer::Refused(checks::number(c18));
-    };
-    take_apart(rows, n, sequence1, sequence2, sum1, sum2);
-    answer
+    let mut k = 0;
+    while k < n {
+        sum1[k] = row_sum(numbers, payoffs, Section::PAYOFFS1, sorted, bounds, k);
+        sum2[k] = row_sum(numbers, payoffs, Section::PAYOFFS2, sorted, bounds, k);
+        k += 1;
+    }
 }
 
 // The payoff table, each column into its buffer: both players' sequence numbers, and for each player the sum of chance weight × payoff.
@@ -88,13 +82,21 @@ pub fn payoff_table(
 ) -> TableAnswer
     ensures { λ r. ⌜ outcome (tableAnswered r) (now (sequence1 .exit), (now (sequence2 .exit), (now (sum1 .exit), (now (sum2 .exit), tt)))) ≡ payoffColumns (now (game .entry)) (now (sequence1 .entry), (now (sequence2 .entry), (now (sum1 .entry), (now (sum2 .entry), tt)))) ⌝ }
 {
-    let none = Row {
-        sequence1: 0,
-        sequence2: 0,
-        sum1: 0,
-        sum2: 0,
-    };
-    let mut rows = [none; ROWS];
-    let answer = rows::payoff_rows(game, &mut rows);
-    spread(answer, rows, sequence1, sequence2, sum1, sum2)
+    let mut numbers = [0u16; Section::NUMBERS];
+    let mut payoffs = [0i16; Section::PAYOFFS];
+    let mut sorted = [0u16; Section::ROOM];
+    let mut bounds = [0u16; Section::ROOM];
+    let room = shortest(sequence1.len(), sequence2.len(), sum1.len(), sum2.len());
+    let answer = rows::laid_out(
+        game,
+        room,
+        &mut numbers,
+        &mut payoffs,
+        &mut sorted,
+        &mut bounds,
+    );
+    let n = rows::rows_given(answer);
+    sequences(n, &numbers, &sorted, &bounds, sequence1, sequence2);
+    sums(n, &numbers, &payoffs, &sorted, &bounds, sum1, sum2);
+    answer
 }

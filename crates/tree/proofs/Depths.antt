@@ -16,7 +16,7 @@ use Rattle.model.specs.Game.{Game}
 use Rattle.model.specs.GameChecks.{pathLimit, depthIn, depth, pathsInLimit}
 use Rattle.checks.specs.declared.Checked.the-variants.{Fine, Broken}
 use Rattle.checks.specs.Checked.{checkedOf}
-use Rattle.records.specs.Rooted.{Rooted}
+use Rattle.loaded.specs.Rooted.{Rooted}
 use Rattle.checks.proofs.Passes.{Passed, passed-none, passed-more, passed-not, passed-all}
 
 -- the test of check 11 for one node

@@ -2,4 +2,5 @@ mod Depths
 mod Masks
 mod Moves
 mod NodeTests
+mod Parents
 mod Weights

@@ -15,17 +15,16 @@ use Rattle.algebra.proofs.Totals.{only}
 use Rattle.algebra.proofs.Searches.{allTo-at, allTo-make, anyTo-find}
 use Rattle.algebra.proofs.Fillings.{holds-none, holds-more}
 use Rattle.model.specs.Limits.{countLimit}
-use Rattle.model.specs.Game.{Game, gameOf, nodeMoves}
+use Rattle.model.specs.Game.{Game, nodeMoves}
 use Rattle.model.specs.GameChecks.{isChild, shareMove, movesLeadOn}
 use Rattle.model.proofs.Tree.{below, below-is}
 use Rattle.checks.specs.declared.Checked.{Checked}
 use Rattle.checks.specs.declared.Checked.the-variants.{Fine, Broken}
 use Rattle.checks.specs.Checked.{checkedOf}
 use Rattle.checks.proofs.Chains.{first-broken, then-second}
-use Rattle.records.specs.declared.game.NodeRecord.{NodeRecord}
-use Rattle.records.specs.Records.{NodeRead}
-use Rattle.records.specs.Rooted.{Rooted}
-use Rattle.tree.specs.Children.{mask, met, Marked, alone, complete}
+use Rattle.loaded.specs.Rooted.{Rooted}
+use Rattle.tree.specs.Children.{mask, met, Marked, alone, complete, Swept}
+use Rattle.tree.proofs.Parents.{Stands}
 use Rattle.tree.proofs.Masks.{mask-cong, mask-none, mask-more, mask-ones, mask-digit, mask-inj}
 
 -- equality, the other way round
@@ -52,35 +51,11 @@ digit-one : (b : Bool) → ¬ (only b 1 ≡ 0) → b ≡ true
 digit-one true e = refl
 digit-one false e = absurd (e refl)
 
--- Node i, other than the root, stands at move m of node p.
-pub record Stands (g : Game) (p m i : ℕ) : Type 0 where
-  pub after : 0 < i
-  pub parent : p ≡ g .parent i
-  pub move : m ≡ g .move i
-  pub inside : p < g .nodes
-  pub near : p < countLimit
-  pub small : m < 64
-
--- so does each whose record is read
-pub stands : {bytes : List ℕ} {r : NodeRecord} (i : ℕ) → Rooted (gameOf bytes) → 0 < i → i < gameOf bytes .nodes → NodeRead bytes i r → Stands (gameOf bytes) (r .parent) (r .place) i
-stands {bytes} {r} i R after l read = record {
-  after = after;
-  parent = read .parent;
-  move = read .place;
-  inside = omega (arith, read .parent, above i after l);
-  near = omega (arith, read .parent, above i after l, R .few-nodes);
-  small = read .place-fits;
-}
-  where
-    above : (i : ℕ) → 0 < i → i < gameOf bytes .nodes → gameOf bytes .parent i < i
-    above zero z v = absurd (omega arith)
-    above (suc i) z v = R .parents i v
-
 module _ {g : Game} {p m i : ℕ} (s : Stands g p m i) where
   -- it stands nowhere else
   child-is : (n k : ℕ) → isChild g n k i ≡ (eqb p n && eqb m k)
   unfolding isChild
-  child-is n k = rw (lt-ltb 0 i (s .after), s .parent, s .move)
+  child-is n k = rw (lt-ltb 0 i (s .hangs .after), s .hangs .parent, s .move)
 
   -- what it adds to the moves met
   met-more : (n k : ℕ) → met g (i + 1) n k ≡ (met g i n k || (eqb p n && eqb m k))
@@ -100,7 +75,7 @@ module _ {g : Game} {p m i : ℕ} (s : Stands g p m i) where
   module _ (seen : List ℕ) (marked : Marked g i seen) where
     -- the digit that is read
     digit-is : getD seen p 0 / 2 ^ m % 2 ≡ only (met g i p m) 1
-    digit-is = rw (marked .at p (s .inside)) (mask-digit 64 (met g i p) m (s .small))
+    digit-is = rw (marked .at p (s .hangs .inside)) (mask-digit 64 (met g i p) m (s .small))
 
     -- where it is 0
     pub not-met : (b : ℕ) → b ≡ getD seen p 0 / 2 ^ m % 2 → b ≡ 0 → met g i p m ≡ false
@@ -113,14 +88,14 @@ module _ {g : Game} {p m i : ℕ} (s : Stands g p m i) where
     -- the digit that is added, where the move was not met
     pub digit-more : met g i p m ≡ false → getD seen p 0 + 2 ^ m ≡ mask 64 (met g (i + 1) p)
     digit-more d =
-        ap (λ (x : ℕ). x + 2 ^ m) (marked .at p (s .inside))
+        ap (λ (x : ℕ). x + 2 ^ m) (marked .at p (s .hangs .inside))
         ∙ mask-more 64 (met g i p) m (s .small) d
         ∙ mask-cong 64 _ (met g (i + 1) p) (λ k l. sym (met-more p k ∙ rw (eq-eqb p p refl)))
 
     -- one node more
     pub marked-more : met g i p m ≡ false → Marked g (i + 1) (set seen p (getD seen p 0 + 2 ^ m))
     marked-more d =
-        holds-more _ _ (g .nodes) seen p _ marked (s .inside) (digit-more d)
+        holds-more _ _ (g .nodes) seen p _ marked (s .hangs .inside) (digit-more d)
         (λ n o. mask-cong 64 (met g i n) (met g (i + 1) n) (λ k l. sym (met-more n k ∙ rw (ne-eqb p n (λ e. o (sym e))) (or-false (met g i n k)))))
 
 module _ (g : Game) where
@@ -133,6 +108,10 @@ module _ (g : Game) where
   pub marked-first : (seen : List ℕ) → g .nodes ≤ countLimit → seen ≡ replicate countLimit 0 → Marked g 1 seen
   unfolding met anyTo isChild
   marked-first seen few e = holds-none _ (g .nodes) countLimit seen e few (λ n. mask-none 64 (met g 1 n) (λ m. refl))
+
+  -- what the pass answers where two nodes share a move
+  pub swept-not : (seen : List ℕ) → Broken 9 ≡ checkedOf 9 (allTo (g .nodes) (alone g)) → Swept g (Broken 9) seen
+  swept-not seen e = (e, λ f. let z : _≡_ {A = ℕ} 0 1 = cc in absurd (omega arith))
 
   -- check 9 has two halves: where the first is broken, its answer
   pub moves-broken : {r : Checked} {n : ℕ} → r ≡ checkedOf 9 (allTo (g .nodes) (alone g)) → r ≡ Broken n → r ≡ checkedOf 9 (movesLeadOn g)

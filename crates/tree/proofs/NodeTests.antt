@@ -1,57 +1,40 @@
--- The tests of checks 6 to 8 of a record that is read: they are the model's of its node.
-use Prim.Native.Nat.{ℕ, zero, suc, _+_}
+-- The tests of checks 7 and 8 of what is read of a node: they are the model's.
+use Prim.Native.Nat.{ℕ, zero, suc, _≤_, _<_}
 use mathlib.Core.Path.{_≡_, refl, sym, _∙_}
-use mathlib.Core.Bool.{Bool, true, not, _&&_, and-true}
-use mathlib.Core.List.{List}
+use mathlib.Core.Bool.{Bool, true, false, not, _&&_, cond}
 use native.Mathlib.Omega.{arith}
-use native.Mathlib.Nat.{add-assoc}
-use lib.Dec.{eqb, ltb}
-use borrow.Author.Tests.{ne-eqb}
+use lib.Dec.{T, eqb, ltb}
+use borrow.Author.Tests.{ne-eqb, lt-ltb, le-ltb}
 use Rattle.algebra.specs.Bounded.{implies}
-use Rattle.model.specs.Bits.{field}
-use Rattle.model.specs.Game.{Game, gameOf, nodeAt, isLeaf, isDecision, isChance, nodeMoves}
-use Rattle.model.specs.GameChecks.{isMoveCount, paddingZero, payloadInRange, attached}
-use Rattle.records.specs.declared.game.NodeRecord.{NodeRecord}
-use Rattle.records.specs.Records.{payloadOf, NodeRead}
-use Rattle.tree.specs.Tests.{wellFormed, inRange}
+use Rattle.model.specs.Game.{Game, isLeaf, isDecision, isChance, nodeMoves}
+use Rattle.model.specs.GameChecks.{isMoveCount, payloadInRange, payloadsInRange, attached}
+use Rattle.model.proofs.Tree.{leaf-moves}
+use Rattle.model.proofs.GameRules.{payloads-iff}
+use Rattle.loaded.specs.Sets.{payloadNumber}
+use Rattle.tree.specs.Games.{SetThere}
+use Rattle.tree.specs.Tests.{inRange}
 
 -- a kind from 3 on is no decision and no chance node
 neither : (k : ℕ) (a b : Bool) → (implies (eqb (suc (suc (suc k))) 1) a && implies (eqb (suc (suc (suc k))) 2) b) ≡ true
 unfolding implies
 neither k a b = rw (ne-eqb (suc (suc (suc k))) 1 (λ e. omega arith), ne-eqb (suc (suc (suc k))) 2 (λ e. omega arith))
 
--- the payload of a record that begins at a bit
-module _ (bytes : List ℕ) (at : ℕ) where
-  -- its padding
-  padded : (kind : ℕ) → eqb (payloadOf bytes (at + 32) kind .padding) 0 ≡ (implies (eqb kind 1) (eqb (field bytes (at + 44) 20) 0) && implies (eqb kind 2) (eqb (field bytes (at + 39) 25) 0))
-  unfolding payloadOf implies
-  padded zero = refl
-  padded (suc zero) = rw (and-true, add-assoc)
-  padded (suc (suc zero)) = rw add-assoc
-  padded (suc (suc (suc k))) = sym (neither k _ _)
+-- each kind's number is the one that its test asks for
+ranged : (sets set moves kind : ℕ) → inRange kind (cond (eqb kind 1) set (cond (eqb kind 2) moves 0)) sets ≡ (implies (eqb kind 1) (ltb set sets) && implies (eqb kind 2) (isMoveCount moves))
+unfolding inRange implies
+ranged sets set moves zero = refl
+ranged sets set moves (suc zero) = refl
+ranged sets set moves (suc (suc zero)) = refl
+ranged sets set moves (suc (suc (suc k))) = neither k _ _ ∙ sym (neither k _ _)
 
-  -- its set and its move count
-  ranged : (sets kind : ℕ) → (implies (eqb kind 1) (ltb (payloadOf bytes (at + 32) kind .set) sets) && implies (eqb kind 2) (isMoveCount (payloadOf bytes (at + 32) kind .moves))) ≡ (implies (eqb kind 1) (ltb (field bytes (at + 32) 12) sets) && implies (eqb kind 2) (isMoveCount (field bytes (at + 32) 7)))
-  unfolding payloadOf implies
-  ranged sets zero = refl
-  ranged sets (suc zero) = refl
-  ranged sets (suc (suc zero)) = refl
-  ranged sets (suc (suc (suc k))) = neither k _ _ ∙ sym (neither k _ _)
+-- the test of check 7
+pub in-range-is : (g : Game) (n : ℕ) {kind payload sets : ℕ} → kind ≡ g .kind n → payload ≡ payloadNumber g n → sets ≡ g .sets → inRange kind payload sets ≡ payloadInRange g n
+unfolding payloadInRange payloadNumber isDecision isChance
+in-range-is g n k p s = rw (k, p, s) (ranged (g .sets) (g .nodeSet n) (g .chanceMoves n) (g .kind n))
 
--- the model's test of check 6 for one node
-abbrev pub wellFormedAt : List ℕ → ℕ → Bool
-wellFormedAt bytes n = not (eqb (gameOf bytes .kind n) 3) && paddingZero bytes n
-
-module _ (bytes : List ℕ) (n : ℕ) (r : NodeRecord) (R : NodeRead bytes n r) where
-  -- the test of check 6
-  pub well-formed-is : wellFormed r ≡ wellFormedAt bytes n
-  unfolding wellFormed paddingZero isDecision isChance
-  well-formed-is = rw (R .kind, R .payload, padded bytes (nodeAt bytes n))
-
-  -- the test of check 7
-  pub in-range-is : (sets : ℕ) → sets ≡ gameOf bytes .sets → inRange r sets ≡ payloadInRange (gameOf bytes) n
-  unfolding inRange payloadInRange isDecision isChance gameOf
-  in-range-is sets e = rw (e, R .kind, R .payload) (ranged bytes (nodeAt bytes n) (gameOf bytes .sets) (gameOf bytes .kind n))
+-- where it passes everywhere, a decision's set is there
+pub set-there : {g : Game} {n : ℕ} → T (payloadsInRange g) → n < g .nodes → SetThere g n
+set-there {g} {n} t l = record { inside = l; set = payloads-iff g .holds t .0 n l }
 
 -- the test of check 8 at the root, by its parent and its move
 pub attached-root : (g : Game) (n : ℕ) {p m : ℕ} → p ≡ g .parent n → m ≡ g .move n → n ≡ 0 → attached g n ≡ (eqb p 0 && eqb m 0)
@@ -59,8 +42,18 @@ unfolding attached
 attached-root g zero a b e = rw (a, b)
 attached-root g (suc n) a b e = absurd (omega arith)
 
--- and at any other node
-pub attached-below : (g : Game) (n : ℕ) {p m : ℕ} → p ≡ g .parent n → m ≡ g .move n → (n ≡ 0 → ⊥) → attached g n ≡ (ltb p n && not (isLeaf g p) && ltb m (nodeMoves g p))
+-- at any other node, where its parent is not smaller
+pub attached-not : (g : Game) (n : ℕ) {p : ℕ} → ¬ (n ≡ 0) → p ≡ g .parent n → n ≤ p → false ≡ attached g n
 unfolding attached
-attached-below g zero a b e = absurd (e refl)
-attached-below g (suc n) a b e = rw (a, b)
+attached-not g zero d a l = absurd (d refl)
+attached-not g (suc n) {p} d a l = rw (← a, le-ltb p (suc n) l)
+
+-- and where it is: a leaf has no move
+pub attached-at : (g : Game) (n : ℕ) {p m moves : ℕ} → ¬ (n ≡ 0) → p ≡ g .parent n → m ≡ g .move n → p < n → moves ≡ nodeMoves g p → ltb m moves ≡ attached g n
+unfolding attached
+attached-at g zero d a b l e = absurd (d refl)
+attached-at g (suc n) {p} {m} d a b l e = rw (← a, ← b, lt-ltb p (suc n) l, e) (inner (isLeaf g p) (ltb m (nodeMoves g p)) (λ t. rw (leaf-moves g p t) (le-ltb m 0 (omega arith))))
+  where
+    inner : (leaf moves : Bool) → (T leaf → moves ≡ false) → moves ≡ (not leaf && moves)
+    inner true moves h = h tt
+    inner false moves h = refl

@@ -1,5 +1,5 @@
 -- Check 10: the sums of the children's weights, and the test for one node.
-use Prim.Native.Nat.{ℕ, zero, suc, _+_, _*_, _≤_}
+use Prim.Native.Nat.{ℕ, zero, suc, _+_, _*_, _≤_, _<_}
 use mathlib.Core.Path.{_≡_, refl, sym, _∙_}
 use mathlib.Core.Bool.{true, false, _&&_, and-true, and-false}
 use mathlib.Core.List.{List}
@@ -14,12 +14,11 @@ use Rattle.algebra.proofs.Tests.{T→true, implies-make, eqb-make}
 use Rattle.algebra.proofs.Totals.{only, only-most, count-bound}
 use Rattle.algebra.proofs.Fillings.{holds-none, holds-more}
 use Rattle.model.specs.Limits.{countLimit}
-use Rattle.model.specs.Game.{Game, gameOf, isDecision, isChance}
+use Rattle.model.specs.Game.{Game, isDecision, isChance}
 use Rattle.model.specs.GameChecks.{childrenWeight, weightInherited, weightShared}
-use Rattle.model.proofs.Budget.{game-limits}
 use Rattle.model.proofs.Tree.{below}
 use Rattle.tree.specs.Children.{weightTest}
-use Rattle.tree.proofs.Moves.{Stands}
+use Rattle.tree.proofs.Parents.{Hangs}
 
 -- the weights of node n's children among the nodes below i, added up
 unfoldable pub weightTo : Game → (i n : ℕ) → ℕ
@@ -30,7 +29,7 @@ pub sums-first : (g : Game) (sums : List ℕ) → g .nodes ≤ countLimit → su
 unfolding weightTo totalTo
 sums-first g sums few e = holds-none (weightTo g 1) (g .nodes) countLimit sums e few (λ n. refl)
 
-module _ {g : Game} {p m i : ℕ} (s : Stands g p m i) where
+module _ {g : Game} {p i : ℕ} (s : Hangs g p i) where
   -- what node i adds
   weight-more : (n : ℕ) → weightTo g (i + 1) n ≡ weightTo g i n + only (eqb p n) (g .weight i)
   unfolding weightTo totalTo
@@ -48,12 +47,10 @@ pub sums-last : (g : Game) (i : ℕ) (sums : List ℕ) → i ≡ g .nodes → Ho
 unfolding weightTo childrenWeight
 sums-last g i sums e held = rw e at held
 
--- a sum of a file's weights is small
-pub sum-small : (bytes : List ℕ) (i n : ℕ) → weightTo (gameOf bytes) i n ≤ i * countLimit
+-- a sum of small weights is small
+pub sum-small : (g : Game) (i n limit : ℕ) → ((c : ℕ) → c < i → g .weight c ≤ limit) → weightTo g i n ≤ i * limit
 unfolding weightTo
-sum-small bytes i n =
-    let g = gameOf bytes in
-    count-bound i countLimit (λ c. only (below g n c) (g .weight c)) (λ c l. omega (arith, only-most (below g n c) (g .weight c), game-limits bytes .weights c))
+sum-small g i n limit small = count-bound i limit (λ c. only (below g n c) (g .weight c)) (λ c l. omega (arith, only-most (below g n c) (g .weight c), small c l))
 
 module _ (g : Game) (n : ℕ) where
   -- a weight of zero

@@ -4,9 +4,9 @@ ghost use lib.ListN.{length};
 ghost use Rattle.io.specs.Counts.{Counts};
 use records::Header;
 
-pub mod checks;
 pub mod lists;
 pub mod output;
+pub mod refusals;
 
 pub use output::say;
 pub use output::say_buffer;

@@ -147,12 +147,23 @@ fn try_words(kind: Kind, words: &[u64])
     }
 }
 
+// The words of a case's file; 0 past its end.
+fn read_words(file: &[u8], words: &mut [u64])
+    requires { ⌜ length (now words) ≡ 172 ⌝ }
+{
+    let mut i = 0;
+    while i < WORDS {
+        words[i] = bits::read_field(file, 64 * i, 64);
+        i += 1;
+    }
+}
+
 // The line of one case.
 fn try_case(kind: Kind, name: &[u8]) {
     let mut bytes = [0u8; CASE_BYTES];
     let file = load(name, &mut bytes);
     let mut words = [0u64; WORDS];
-    bits::runs::read_run(file, 0, 64, WORDS, &mut words, 0);
+    read_words(file, &mut words);
     say(name);
     try_words(kind, &words);
 }

@@ -4,7 +4,6 @@ use mathlib.Core.Path.{_≡_, sym, ap, _∙_}
 use mathlib.Core.Bool.{cond}
 use mathlib.Core.List.{List, [], _∷_, map}
 use lib.Dec.{T}
-use lib.ListN.{set}
 use Rattle.algebra.specs.Arrays.{item, Holds}
 use Rattle.algebra.proofs.Lists.{joinTo-cong, map-joinTo}
 use Rattle.algebra.proofs.Tests.{dec, cond-yes, cond-no}
@@ -13,7 +12,7 @@ use Rattle.model.specs.Sequences.{Move}
 use Rattle.model.specs.Plan.{RealizationPlan}
 use Rattle.model.specs.Earnings.{setsOf}
 use Rattle.model.specs.BestResponse.{bestMove, bestAt, bestResponse}
-use Rattle.form.specs.BestMoves.{ownBestMove}
+use Rattle.responses.specs.BestMoves.{ownBestMove}
 
 -- Moves by set number that are p's best moves against y.
 module _ (g : Game) (p : Player) (y : RealizationPlan) where

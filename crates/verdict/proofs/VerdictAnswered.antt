@@ -1,5 +1,5 @@
 -- What was judged is the model's verdict; what the call answers of it and leaves in the buffer, and demand 3 for both.
-use Prim.Native.Nat.{ℕ, _≤_, _<_, _*_}
+use Prim.Native.Nat.{ℕ, _≤_, _*_}
 use mathlib.Core.Path.{_≡_, refl, sym, ap, _∙_, subst}
 use mathlib.Core.Bool.{Bool, true, false, cond}
 use mathlib.Core.List.{List, [], _∷_, map}
@@ -13,6 +13,7 @@ use mir.Syntax.{w64}
 use mir.Val.{SFits, toZ, ofZ}
 use mir.Facts.{toZ-ofZ}
 use Rattle.algebra.specs.Arrays.{item, Holds}
+use Rattle.algebra.specs.Sections.{Held}
 use Rattle.model.specs.Limits.{countLimit}
 use Rattle.model.specs.Game.{Game, Player, gameOf, one, two, other, playerNumber}
 use Rattle.model.specs.Sequences.{Move}
@@ -22,6 +23,7 @@ use Rattle.model.specs.Checks.{pairRefusal}
 use Rattle.model.specs.Earnings.{setsOf, valueBase, valueCount}
 use Rattle.model.specs.BestResponse.{bestCount, bestResponse}
 use Rattle.model.specs.Verdict.{Verdict, equilibrium, deviation, gain, deviationOf, verdict, shownMoves}
+use Rattle.model.specs.Writing.{playerField}
 use Rattle.model.specs.Call.{given, refused, afterCall, Outcome, outcome, run}
 use Rattle.model.specs.calls.Verdict as Call
 use Rattle.model.specs.calls.Verdict.{Stated}
@@ -31,17 +33,18 @@ use Rattle.model.proofs.Checks.{game-rules, plan-rules, pair-parts, pair-named}
 use Rattle.model.proofs.calls.Verdict.{demand3}
 use Rattle.checks.proofs.Chains.{begin, ends, call-refuses, call-gives, same-run}
 use Rattle.checks.proofs.Files.{pair-refuses, pair-fine}
-use Rattle.records.proofs.Headers.{header-weight, header-sets}
+use Rattle.loaded.specs.Sections.{playerSection}
 use Rattle.plan.specs.declared.PairHeader.{PairHeader}
 use Rattle.plan.proofs.Pairs.{PairOpened}
 use Rattle.form.specs.declared.Values.{Values}
-use Rattle.form.specs.BestMoves.{ownBestMove}
+use Rattle.responses.specs.BestMoves.{ownBestMove}
 use Rattle.form.specs.Values.{valuesOf}
 use Rattle.judgement.specs.declared.Verdict.{Verdict as NumberVerdict}
 use Rattle.judgement.specs.declared.Verdict.the-variants as Numbers
 use Rattle.judgement.specs.Judgement.{judged, GainFits}
-use Rattle.verdict.specs.Showing.{showing}
+use Rattle.verdict.specs.Showing.{showing, ShowAsked}
 use Rattle.judgement.proofs.Judgement.{numbered, withoutMoves, judged-is, gains-fit, says-deviation}
+use Rattle.verdict.proofs.EvaluatedPairs.{weight-is, sets-are}
 use Rattle.verdict.proofs.Strategies.{strategy-is}
 use Rattle.plan.proofs.PairDenominators.{d1-is, d2-is}
 
@@ -77,14 +80,14 @@ module _ (game plan buffer : List ℕ) where
 -- A pair that was read.
 module _ (game plan : List ℕ) (h : PairHeader) (o : PairOpened game plan h) where
   -- D0 × D1 × D2
-  pub base-is : {base : ℕ} → base ≡ h .header .«root_weight» * (h .denominators .d1 * h .denominators .d2) → base ≡ Call.baseOf (files game plan)
+  pub base-is : {base : ℕ} → base ≡ h .counts .«root_weight» * (h .denominators .d1 * h .denominators .d2) → base ≡ Call.baseOf (files game plan)
   unfolding valueBase
-  base-is e = e ∙ rw (header-weight (h .header) game (o .header), d1-is game plan h o, d2-is game plan h o)
+  base-is e = e ∙ rw (weight-is game plan h o, d1-is game plan h o, d2-is game plan h o)
 
   -- what multiplying them asks
-  pub base-asks : (h .header .«root_weight» ≤ countLimit) × (h .denominators .d1 ≤ 65535) × (h .denominators .d2 ≤ 65535)
+  pub base-asks : (h .counts .«root_weight» ≤ countLimit) × (h .denominators .d1 ≤ 65535) × (h .denominators .d2 ≤ 65535)
   base-asks =
-      rw (header-weight (h .header) game (o .header), d1-is game plan h o, d2-is game plan h o)
+      rw (weight-is game plan h o, d1-is game plan h o, d2-is game plan h o)
       (game-limits game .root, plan-limits (gameOf game) plan one .denominator, plan-limits (gameOf game) plan two .denominator)
 
   file-budget : Budget (gameOf game) (planPairOf (gameOf game) plan)
@@ -107,9 +110,9 @@ module _ (game plan : List ℕ) (h : PairHeader) (o : PairOpened game plan h) wh
     unfolding valuesOf
     judged-as e = e ∙ rw (values, d1-is game plan h o, d2-is game plan h o) (judged-is (gameOf game) (planPairOf (gameOf game) plan))
 
-  -- what showing a deviation asks, with so many moves
-  pub show-asks : {player moves : ℕ} → player < 2 → gameOf game .sets ≤ moves → (h .header .sets ≡ gameOf game .sets) × (player < 2) × (h .header .sets ≤ moves)
-  show-asks l m = let sets = header-sets (h .header) game (o .header) in (sets, l, omega (arith, sets))
+  -- what showing a deviation asks, with the players of the sets and a move for each
+  pub show-asks : {numbers moves : List ℕ} → Held playerSection (playerField (gameOf game)) (gameOf game .sets) numbers → gameOf game .sets ≤ length moves → ShowAsked numbers (h .counts .sets) moves
+  show-asks held l = let sets = sets-are game plan h o in record { game = gameOf game; sets-are = sets; players = held; moves-long = omega (arith, sets) }
 
 -- The player that a deviation names, 1 or else 2, and what the model's verdict then is.
 module _ (game plan : List ℕ) (player : ℕ) (z : ℤ) (e : withoutMoves (Call.verdictOf (files game plan)) ≡ Numbers.Deviation player z) where

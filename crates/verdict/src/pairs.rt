@@ -3,9 +3,8 @@ ghost use mathlib.Core.Path.{_≡_};
 ghost use Prim.Native.Nat.{_≤_};
 ghost use lib.ListN.{length};
 ghost use Rattle.model.specs.Limits.{countLimit};
-ghost use Rattle.model.specs.Game.{one, two};
-ghost use Rattle.model.specs.Checks.{pairRefusal};
-ghost use Rattle.verdict.specs.Pairs.{pairEvaluated, evaluatedRefusal, movesAfter};
+ghost use Rattle.loaded.specs.Sections.{numbersRoom, payoffsRoom};
+ghost use Rattle.verdict.specs.Pairs.{evaluatedRefusal, PairLeft};
 use super::PairEvaluated;
 use plan::PairAnswer;
 use records::NodeRecord;
@@ -20,22 +19,25 @@ pub fn refusal(answer: PairEvaluated) -> u64
     }
 }
 
-// Checks 1 to 16, and of a pair that fits the values; `moves1` and `moves2` then have by set the best moves of each player.
+// Checks 1 to 16, and of a pair that fits the values; `numbers` and `payoffs` then have the loaded game,
+// `moves1` and `moves2` by set the best moves of each player.
 pub fn evaluate(
     game: &[u8],
     plan: &[u8],
-    moves1: &mut [usize],
-    moves2: &mut [usize],
+    numbers: &mut [u16],
+    payoffs: &mut [i16],
+    moves1: &mut [u16],
+    moves2: &mut [u16],
 ) -> PairEvaluated
-    requires { ⌜ (countLimit ≤ length (now moves1)) × (countLimit ≤ length (now moves2)) ⌝ }
-    ensures { λ r. ⌜ (r ≡ pairEvaluated (pairRefusal (now (game .entry)) (now (plan .entry))) (now (game .entry)) (now (plan .entry))) × (now (moves1 .exit) ≡ movesAfter (pairRefusal (now (game .entry)) (now (plan .entry))) (now (game .entry)) (now (plan .entry)) one (now (moves1 .entry))) × (now (moves2 .exit) ≡ movesAfter (pairRefusal (now (game .entry)) (now (plan .entry))) (now (game .entry)) (now (plan .entry)) two (now (moves2 .entry))) ⌝ }
+    requires { ⌜ (numbersRoom ≤ length (now numbers)) × (payoffsRoom ≤ length (now payoffs)) × (countLimit ≤ length (now moves1)) × (countLimit ≤ length (now moves2)) ⌝ }
+    ensures { λ r. ⌜ PairLeft (now (game .entry)) (now (plan .entry)) (now (moves1 .entry)) (now (moves2 .entry)) r (now (numbers .exit)) (now (payoffs .exit)) (now (moves1 .exit)) (now (moves2 .exit)) ⌝ }
 {
-    let mut x = [0u64; NodeRecord::NODES];
-    let mut y = [0u64; NodeRecord::NODES];
-    let answer = plan::pair::read(game, plan, &mut x, &mut y);
+    let mut x = [0u16; NodeRecord::NODES];
+    let mut y = [0u16; NodeRecord::NODES];
+    let answer = plan::pair::read(game, plan, numbers, payoffs, &mut x, &mut y);
     let PairAnswer::Fits(pair) = answer else {
         return PairEvaluated::Refused(plan::pair::refusal(answer));
     };
-    let values = form::evaluate::evaluate(game, pair.header, pair.counts, &x, &y, moves1, moves2);
+    let values = form::evaluate(numbers, payoffs, pair.counts, &x, &y, moves1, moves2);
     PairEvaluated::Evaluated { pair, values }
 }

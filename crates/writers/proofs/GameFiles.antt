@@ -25,7 +25,7 @@ use Rattle.checks.proofs.Chains.{fine-holds}
 use Rattle.checks.specs.declared.WriteAnswer.{WriteAnswer}
 use Rattle.checks.specs.declared.WriteAnswer.the-variants.{Written, Refused}
 use Rattle.checks.specs.Answers.{writeAnswered}
-use Rattle.records.specs.declared.game.Header.{Header}
+use Rattle.records.specs.declared.game_file.Header.{Header}
 use Rattle.records.specs.Records as Records
 use Rattle.writers.specs.GameWriter.{setLists}
 use Rattle.writers.proofs.GameWriter.{nodePart}

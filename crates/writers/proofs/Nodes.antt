@@ -9,7 +9,7 @@ use Rattle.algebra.specs.Bounded.{allTo}
 use Rattle.algebra.proofs.Searches.{allTo-cong}
 use Rattle.model.specs.Writing.{GameFields, setBits, payloadBits, nodeBits, kindFits}
 use Rattle.model.proofs.Bits.{length-bits}
-use Rattle.records.specs.declared.game.NodeRecord.{NodeRecord}
+use Rattle.records.specs.declared.game_file.NodeRecord.{NodeRecord}
 use Rattle.records.specs.Records as Records
 use Rattle.writers.specs.GameWriter.{kindLists, nodeOf}
 

@@ -7,7 +7,7 @@ use lib.IntN.{ℤ}
 use lib.ListN.{length}
 use Rattle.algebra.specs.Arrays.{item, itemZ}
 use Rattle.model.specs.Writing.{GameFields, gameFields, fitsSigned}
-use Rattle.records.specs.declared.game.NodeRecord.{NodeRecord}
+use Rattle.records.specs.declared.game_file.NodeRecord.{NodeRecord}
 
 -- D0 and the sets' lists alone
 abbrev pub setLists : (rootWeight : ℕ) → (setPlayers setMoves : List ℕ) → GameFields

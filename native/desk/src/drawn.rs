@@ -10,8 +10,10 @@ use generator::plans::{random_plan, random_pure_plan};
 use generator::refused_plans::misfits;
 use generator::rng::Rng;
 use generator::shape::{random_count, Shape};
-use generator::tables::PlanWeights;
+use generator::slow::{slow_game, Slow};
+use generator::tables::{GameTables, PlanWeights};
 use reference::game::{check_game, Game};
+use reference::limits::MOST_ENTRIES;
 use reference::plan::{check_plan, Plan};
 
 /// As many in a hundred games are of up to 4,095 nodes.
@@ -20,8 +22,7 @@ const LARGE_PERCENT: usize = 1;
 /// Pairs over one game: those that fit, and about as many that are damaged.
 pub fn draw(rng: &mut Rng) -> Result<Vec<Pair>, Refusal> {
     let large = rng.percent(LARGE_PERCENT);
-    let shape = draw_shape(rng, large);
-    let game = random_game(rng, &shape).bytes()?;
+    let game = draw_game(rng, large).bytes()?;
     let accepted = check_game(&game)?;
     let plans = match large {
         true => any_plans(rng, &accepted),
@@ -43,14 +44,19 @@ pub fn draw(rng: &mut Rng) -> Result<Vec<Pair>, Refusal> {
     Ok(pairs)
 }
 
-fn draw_shape(rng: &mut Rng, large: bool) -> Shape {
-    match rng.below(4) {
-        0 if large => Shape::deep(rng),
+fn draw_game(rng: &mut Rng, large: bool) -> GameTables {
+    let shape = match rng.below(5) {
+        0 => {
+            let slow = Slow::random(rng, if large { MOST_ENTRIES } else { 120 });
+            return slow_game(rng, &slow);
+        }
+        1 if large => Shape::deep(rng),
         _ if large => Shape::full(rng),
-        0 => Shape::crowded(rng, 60),
-        1 => Shape::random(rng, 300, 12),
+        1 => Shape::crowded(rng, 60),
+        2 => Shape::random(rng, 300, 12),
         _ => Shape::random(rng, 60, 6),
-    }
+    };
+    random_game(rng, &shape)
 }
 
 fn any_plans(rng: &mut Rng, game: &Game) -> Vec<PlanWeights> {

@@ -1,14 +1,18 @@
 //! Safe wrappers over the proved library's exports, whose declarations are written from the
-//! Rattle source and are each used by the differential tests; and the built program, run in
-//! folders.
+//! Rattle source and are each used by the differential tests; the built program, run in
+//! folders; and plain Rust to measure both beside.
 
+pub mod bench;
 pub mod drawn;
+pub mod every_export;
+pub mod expected;
 pub mod form;
 pub mod plain;
 pub mod program;
 pub mod report;
 pub mod samples;
 pub mod timing;
+pub mod variants;
 pub mod verdict;
 
 mod exports;

@@ -1,11 +1,12 @@
 //! Games with plans to measure on: each kind at full size and at half of it, so that the
-//! times show what twice the game costs, and small ones by the thousand.
+//! times show what twice the game costs, small ones by the thousand, and slow ones.
 
 use crate::Refusal;
 use generator::games::random_game;
 use generator::plans::random_plan;
 use generator::rng::Rng;
 use generator::shape::{random_count, Growth, Payoffs, Shape};
+use generator::slow::{slow_games_of_full_size, Named};
 use generator::tables::GameTables;
 use reference::limits::MOST_ENTRIES;
 
@@ -36,22 +37,40 @@ pub struct Sample {
     pub pairs: Vec<Pair>,
 }
 
-impl Sample {
-    fn draw(
-        rng: &mut Rng,
-        name: String,
-        count: usize,
-        shape: impl Fn(&mut Rng) -> Shape,
-    ) -> Result<Sample, Refusal> {
-        let pairs: Result<Vec<Pair>, Refusal> = (0..count)
-            .map(|_| {
-                let shape = shape(rng);
-                let tables = random_game(rng, &shape);
-                Pair::draw(rng, &tables)
-            })
-            .collect();
-        let name = format!("{count} {name}");
-        pairs.map(|pairs| Sample { name, pairs })
+/// A sample that is still to be drawn, from a seed of its own.
+pub struct Source {
+    pub name: String,
+    draw: Draw,
+}
+
+type Draw = Box<dyn Fn(&mut Rng) -> Result<Vec<Pair>, Refusal>>;
+
+impl Source {
+    /// So many games of a shape.
+    fn of(name: String, count: usize, shape: impl Fn(&mut Rng) -> Shape + 'static) -> Source {
+        let one = move |rng: &mut Rng| {
+            let shape = shape(rng);
+            let tables = random_game(rng, &shape);
+            Pair::draw(rng, &tables)
+        };
+        Source {
+            name: format!("{count} {name}"),
+            draw: Box::new(move |rng| (0..count).map(|_| one(rng)).collect()),
+        }
+    }
+
+    /// A slow game by itself.
+    fn of_slow((name, tables): Named) -> Source {
+        Source {
+            name: format!("slow: {name}"),
+            draw: Box::new(move |rng| Ok(vec![Pair::draw(rng, &tables)?])),
+        }
+    }
+
+    pub fn draw(self) -> Result<Sample, Refusal> {
+        let pairs = (self.draw)(&mut Rng::new(2026))?;
+        let name = self.name;
+        Ok(Sample { name, pairs })
     }
 }
 
@@ -93,33 +112,44 @@ fn many_sets(rng: &mut Rng) -> Shape {
 /// A name, and how a shape of that kind is drawn.
 type Kind = (&'static str, fn(&mut Rng) -> Shape);
 
-/// Every sample; in the last one all payoffs are alike, so that every pair is accepted.
-pub fn samples() -> Result<Vec<Sample>, Refusal> {
-    let mut rng = Rng::new(2026);
+/// Every sample but the slow games; in the last one all payoffs are alike, so that every pair is
+/// accepted.
+pub fn sources() -> Vec<Source> {
     let kinds: [Kind; 3] = [
         ("wide games", wide),
         ("deep games", deep),
         ("games of many sets", many_sets),
     ];
-    let mut samples = Vec::new();
+    let mut sources = Vec::new();
     for (kind, shape) in kinds {
         for nodes in [MOST_ENTRIES, HALF] {
             let name = format!("{kind}, {nodes} nodes");
-            let sized = |rng: &mut Rng| Shape {
+            let sized = move |rng: &mut Rng| Shape {
                 nodes,
                 ..shape(rng)
             };
-            samples.push(Sample::draw(&mut rng, name, FILES, sized)?);
+            sources.push(Source::of(name, FILES, sized));
         }
     }
     let small = |rng: &mut Rng| Shape::random(rng, 60, 6);
-    let name = "games of up to 60 nodes".to_string();
-    samples.push(Sample::draw(&mut rng, name, 1_000, small)?);
+    let name = "small games, up to 60 nodes".to_string();
+    sources.push(Source::of(name, 1_000, small));
     let alike = |rng: &mut Rng| Shape {
         payoffs: Payoffs::Constant(-1),
         ..many_sets(rng)
     };
     let name = "games of many sets and one payoff".to_string();
-    samples.push(Sample::draw(&mut rng, name, FILES, alike)?);
-    Ok(samples)
+    sources.push(Source::of(name, FILES, alike));
+    sources
+}
+
+/// The slow games, each by itself.
+pub fn slow_sources() -> Vec<Source> {
+    let games = slow_games_of_full_size().into_iter();
+    games.map(Source::of_slow).collect()
+}
+
+/// Every sample but the slow games, drawn.
+pub fn samples() -> Result<Vec<Sample>, Refusal> {
+    sources().into_iter().map(Source::draw).collect()
 }

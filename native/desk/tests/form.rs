@@ -2,7 +2,7 @@
 //! best values.
 
 use desk::form::{payoff_table, values, TableBuffers, Values};
-use desk::{plain, Refusal};
+use desk::{expected, plain, Refusal};
 use generator::aim::{aim_at_game, aim_at_plan};
 use generator::damage::random_damage;
 use generator::games::random_game;
@@ -17,7 +17,7 @@ use generator::refused_plans::{misfits, wrong_headers, wrong_lengths};
 use generator::rng::Rng;
 use generator::shape::{random_count, Payoffs, Shape};
 use generator::tables::{GameTables, Place, PlanWeights};
-use reference::form::{best_response, table_value_count, value_count, Row};
+use reference::form::{table_value_count, value_count, Row};
 use reference::game::{check_game, Game, Kind, Player};
 use reference::plan::{check_plan, Plan};
 
@@ -32,36 +32,28 @@ fn patterned(lengths: [usize; 4]) -> TableBuffers {
     }
 }
 
-fn number(sum: i128) -> i64 {
-    i64::try_from(sum).expect("any sum of document 01 has fewer than 64 bits")
-}
-
 /// The front of a buffer overlaid with a result.
-fn lay<T>(buffer: &mut [T], result: impl Iterator<Item = T>) {
-    for (entry, value) in buffer.iter_mut().zip(result) {
-        *entry = value;
-    }
+fn lay<T: Copy>(buffer: &mut [T], result: &[T]) {
+    buffer[..result.len()].copy_from_slice(result);
 }
 
-/// The buffers after a call that gives these rows: what lies past them stays.
-fn filled(rows: &[Row], before: &TableBuffers) -> TableBuffers {
+/// The buffers after a call that gives this table: what lies past it stays.
+fn filled(table: &TableBuffers, before: &TableBuffers) -> TableBuffers {
     let mut after = before.clone();
     for player in 0..2 {
-        let sequences = rows.iter().map(|row| row.sequences[player] as u64);
-        lay(&mut after.sequences[player], sequences);
-        let sums = rows.iter().map(|row| number(row.sums[player]));
-        lay(&mut after.sums[player], sums);
+        lay(&mut after.sequences[player], &table.sequences[player]);
+        lay(&mut after.sums[player], &table.sums[player]);
     }
-    after.rows = rows.len() as u64;
+    after.rows = table.rows;
     after
 }
 
 /// A call with buffers of these lengths must give this answer, and no more.
-fn compare_lengths(file: &[u8], wanted: &Result<Vec<Row>, Refusal>, lengths: [usize; 4]) {
+fn compare_lengths(file: &[u8], wanted: &Result<TableBuffers, Refusal>, lengths: [usize; 4]) {
     let before = patterned(lengths);
     let (answer, after) = match wanted {
-        Ok(rows) if lengths.iter().all(|&length| rows.len() <= length) => {
-            (Ok(()), filled(rows, &before))
+        Ok(table) if lengths.iter().all(|&length| table.rows <= length as u64) => {
+            (Ok(()), filled(table, &before))
         }
         Ok(_) => (Err(18), before.clone()),
         Err(refusal) => (Err(*refusal), before.clone()),
@@ -72,34 +64,30 @@ fn compare_lengths(file: &[u8], wanted: &Result<Vec<Row>, Refusal>, lengths: [us
 }
 
 /// The same file through plain Rust.
-fn compare_plain(file: &[u8], wanted: &Result<Vec<Row>, Refusal>) {
+fn compare_plain(file: &[u8], wanted: &Result<TableBuffers, Refusal>) {
     let tables = [
         plain::table::payoff_table::<plain::BitLoop>,
         plain::table::payoff_table::<plain::Word>,
     ];
-    let before = patterned([wanted.as_ref().map_or(4, |rows| rows.len()); 4]);
+    let before = patterned([wanted.as_ref().map_or(4, |table| table.rows as usize); 4]);
     for table in tables {
         let mut buffers = before.clone();
         let answer = table(file, &mut buffers);
-        let after = wanted.as_ref().map(|rows| filled(rows, &before));
-        assert_eq!(
-            answer.as_ref().map(|()| &buffers),
-            after.as_ref().map_err(|refusal| *refusal)
-        );
+        assert_eq!(&answer.map(|()| buffers), wanted);
     }
 }
 
 /// A table in buffers exactly long enough, longer, and each too short in turn.
 fn compare_table(file: &[u8], game: Result<&Game, Refusal>) {
-    let wanted = game.map(reference::form::payoff_table);
+    let wanted = game.map(expected::payoff_table);
     compare_plain(file, &wanted);
-    let Ok(rows) = &wanted else {
+    let Ok(table) = &wanted else {
         compare_lengths(file, &wanted, [4_095; 4]);
         compare_lengths(file, &wanted, [3, 2, 1, 0]);
         compare_lengths(file, &wanted, [0; 4]);
         return;
     };
-    let count = rows.len();
+    let count = table.rows as usize;
     compare_lengths(file, &wanted, [count; 4]);
     compare_lengths(file, &wanted, [count + 1, count + 4, count + 3, count + 2]);
     compare_lengths(file, &wanted, [0; 4]);
@@ -116,17 +104,13 @@ const UNTOUCHED: Values = Values {
     weights: [33_333, 44_444, 55_555],
 };
 
+/// What is expected, once the payoff table gives the same values.
 fn values_of(plan: &Plan) -> Values {
     for player in Player::BOTH {
         let value = value_count(plan, player);
         assert_eq!(value, table_value_count(plan, player));
     }
-    let denominators = Player::BOTH.map(|player| plan.denominator(player));
-    Values {
-        values: Player::BOTH.map(|player| number(value_count(plan, player))),
-        bests: Player::BOTH.map(|player| number(best_response(plan, player).count())),
-        weights: [plan.game().root_weight(), denominators[0], denominators[1]],
-    }
+    expected::values(plan)
 }
 
 /// Values and best values of a pair; the refusal, or 0.

@@ -1,6 +1,6 @@
 //! The proved library against the independent implementation, on game files.
 
-use desk::{check_game, game_fields, plain, Buffers, Counts, Refusal};
+use desk::{check_game, expected, game_fields, plain, Buffers, Counts, Refusal};
 use generator::aim::aim_at_game;
 use generator::damage::random_damage;
 use generator::games::random_game;
@@ -10,14 +10,9 @@ use reference::game::Game;
 use reference::writer::{fields_of, Fields};
 
 /// What the independent implementation says of a game file.
-fn expected(file: &[u8]) -> Result<(Counts, Game), Refusal> {
+fn judged(file: &[u8]) -> Result<(Counts, Game), Refusal> {
     let game = reference::game::check_game(file)?;
-    let counts = Counts {
-        nodes: game.nodes().len() as u64,
-        sets: game.sets().len() as u64,
-        root_weight: game.root_weight(),
-    };
-    Ok((counts, game))
+    Ok((expected::counts(&game), game))
 }
 
 /// Buffers of these lengths, each filled with a pattern of its own.
@@ -62,7 +57,7 @@ fn filled(fields: &Fields, before: &Buffers) -> Buffers {
 
 /// One file through every export that takes a game; the refusal, or 0.
 fn compare(file: &[u8]) -> Refusal {
-    let wanted = expected(file);
+    let wanted = judged(file);
     let counts = wanted.as_ref().map(|(counts, _)| *counts).map_err(|&k| k);
     assert_eq!(check_game(file), counts);
     assert_eq!(plain::check_game::<plain::BitLoop>(file), counts);

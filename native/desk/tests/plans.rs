@@ -1,6 +1,6 @@
 //! The proved library against the independent implementation, on plan files.
 
-use desk::{plain, plan_fields, PlanBuffers, Refusal};
+use desk::{expected, plain, plan_fields, PlanBuffers, Refusal};
 use generator::aim::{aim_at_game, aim_at_plan};
 use generator::damage::random_damage;
 use generator::edit::{put_bits, D1, D2, EDITION, PLAN_ZEROS};
@@ -12,7 +12,7 @@ use generator::poker::{kuhn, leduc};
 use generator::refused_plans::{misfits, wrong_headers, wrong_lengths};
 use generator::rng::Rng;
 use generator::shape::{random_count, Shape};
-use reference::game::{check_game, Game, Player};
+use reference::game::{check_game, Game};
 use reference::plan::check_plan;
 
 /// D1, D2 and a buffer of this length, each with a pattern of its own.
@@ -31,17 +31,6 @@ fn filled(given: &PlanBuffers, before: &PlanBuffers) -> PlanBuffers {
         weights: given.weights.iter().chain(past).copied().collect(),
         ..given.clone()
     }
-}
-
-/// What the independent implementation reads from a game with a plan.
-fn expected(game: Result<&Game, Refusal>, plan: &[u8]) -> Result<PlanBuffers, Refusal> {
-    let game = game?;
-    let plan = check_plan(game, plan)?;
-    Ok(PlanBuffers {
-        d1: plan.denominator(Player::One),
-        d2: plan.denominator(Player::Two),
-        weights: plan.weights_in_file_order(),
-    })
 }
 
 /// A call with a buffer of this length must give this answer, and no more.
@@ -75,7 +64,8 @@ fn compare_plain(game: &[u8], plan: &[u8], wanted: &Result<PlanBuffers, Refusal>
 /// A plan with a game through the library, in buffers exactly long enough, longer and
 /// too short; the refusal, or 0.
 fn compare(file: &[u8], game: Result<&Game, Refusal>, plan: &[u8]) -> Refusal {
-    let wanted = expected(game, plan);
+    let wanted =
+        game.and_then(|game| check_plan(game, plan).map(|plan| expected::plan_fields(&plan)));
     compare_plain(file, plan, &wanted);
     match &wanted {
         Ok(given) => {

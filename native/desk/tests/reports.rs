@@ -2,7 +2,7 @@
 
 use desk::drawn::{draw, Met};
 use desk::report::{refusal_line, report};
-use desk::{Output, Refusal};
+use desk::{expected, Output, Refusal};
 use generator::large::{most_nodes, most_sets, most_sets_of_one};
 use generator::plans::even_plan;
 use generator::rng::Rng;
@@ -43,11 +43,7 @@ fn compare_room(
 /// A buffer that is one byte short, one that is exactly long enough, and such as are so much
 /// longer. Gives what the desk program prints.
 fn compare(game: &[u8], plan: &[u8], longer: &[usize]) -> String {
-    let text = reference::report::report(game, plan);
-    let wanted = match text.strip_prefix("refusal ") {
-        Some(number) => Err(number.trim_end().parse().unwrap()),
-        None => Ok(text.clone().into_bytes()),
-    };
+    let wanted = expected::report(game, plan);
     let call = |out: &mut Output| report(game, plan, out);
     let length = wanted.as_ref().map_or(1, Vec::len);
     compare_room(call, &wanted, length - 1);
@@ -55,7 +51,10 @@ fn compare(game: &[u8], plan: &[u8], longer: &[usize]) -> String {
     for more in longer {
         compare_room(call, &wanted, length + more);
     }
-    text
+    match wanted {
+        Ok(text) => String::from_utf8(text).unwrap(),
+        Err(refusal) => reference::report::refusal_line(refusal.into()),
+    }
 }
 
 #[test]

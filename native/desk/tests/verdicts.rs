@@ -2,7 +2,7 @@
 //! independent implementation on large ones.
 
 use desk::verdict::{verdict, VerdictBuffers};
-use desk::{plain, Refusal};
+use desk::{expected, plain, Refusal};
 use generator::aim::{aim_at_game, aim_at_plan};
 use generator::damage::random_damage;
 use generator::games::{game_of_few_strategies, random_game};
@@ -38,31 +38,6 @@ fn patterned(length: usize) -> VerdictBuffers {
         base: 111_111,
         count: 222_222,
         moves: (0..length as u64).map(|i| 7_919_000 + i).collect(),
-    }
-}
-
-/// What a verdict gives, its moves alone in the buffer.
-fn given(plan: &Plan, verdict: &Verdict) -> VerdictBuffers {
-    let base = plan.value_base();
-    match verdict {
-        Verdict::Accepted => VerdictBuffers {
-            player: 0,
-            gain: 0,
-            base,
-            count: 0,
-            moves: Vec::new(),
-        },
-        Verdict::Deviation(shown) => VerdictBuffers {
-            player: shown.player.index() as u64 + 1,
-            gain: i64::try_from(shown.gain).expect("fewer than 64 bits"),
-            base,
-            count: shown.moves.len() as u64,
-            moves: shown
-                .moves
-                .iter()
-                .map(|taken| taken.number as u64)
-                .collect(),
-        },
     }
 }
 
@@ -103,7 +78,7 @@ fn compare_plain(game: &[u8], plan: &[u8], wanted: &Result<VerdictBuffers, Refus
 
 /// A verdict into a buffer exactly long enough, longer, one short and empty.
 fn compare_verdict(file: &[u8], bytes: &[u8], plan: &Plan, verdict: &Verdict) {
-    let wanted = Ok(given(plan, verdict));
+    let wanted = Ok(expected::verdict(plan, verdict));
     let count = wanted.as_ref().map_or(0, |given| given.moves.len());
     compare_plain(file, bytes, &wanted);
     compare_room(file, bytes, &wanted, count);
@@ -355,7 +330,10 @@ fn compare_files(file: &[u8], plan: &[u8]) -> usize {
     let game = check_game(file);
     let wanted = game.as_ref().map_err(|&refusal| refusal).and_then(|game| {
         let plan = check_plan(game, plan)?;
-        Ok(given(&plan, &reference::verdict::verdict(&plan)))
+        Ok(expected::verdict(
+            &plan,
+            &reference::verdict::verdict(&plan),
+        ))
     });
     compare_plain(file, plan, &wanted);
     for room in [0, 1, 5_000] {

@@ -2,7 +2,7 @@
 
 use crate::grouping::Grouping;
 use crate::rng::Rng;
-use crate::shape::Shape;
+use crate::shape::{Payoffs, Shape};
 use crate::tables::{GameTables, Place};
 use crate::tree::{DraftKind, Tree};
 use reference::brute::pure_strategies;
@@ -11,7 +11,17 @@ use reference::game::{check_game, Player};
 /// A random game of that shape.
 pub fn random_game(rng: &mut Rng, shape: &Shape) -> GameTables {
     let tree = Tree::grow(rng, shape);
-    let grouping = Grouping::of(rng, &tree, shape.merge_percent);
+    game_of(rng, &tree, shape.merge_percent, shape.payoffs)
+}
+
+/// A game on a tree: its decisions put into sets, its nodes in some order, its payoffs drawn.
+pub(crate) fn game_of(
+    rng: &mut Rng,
+    tree: &Tree,
+    merge_percent: usize,
+    payoffs: Payoffs,
+) -> GameTables {
+    let grouping = Grouping::of(rng, tree, merge_percent);
     let order = tree.random_order(rng);
     let mut numbers = vec![0; order.len()];
     for (number, &node) in order.iter().enumerate() {
@@ -26,7 +36,7 @@ pub fn random_game(rng: &mut Rng, shape: &Shape) -> GameTables {
         let parent = numbers[draft.parent];
         let place = Place::new(parent, draft.move_number as u64, draft.weight);
         match draft.kind {
-            DraftKind::Leaf => tables.add_leaf(place, shape.payoffs.draw(rng)),
+            DraftKind::Leaf => tables.add_leaf(place, payoffs.draw(rng)),
             DraftKind::Decision { .. } => tables.add_decision(place, grouping.of_node[node] as u64),
             DraftKind::Chance { moves } => tables.add_chance(place, moves as u64),
         };

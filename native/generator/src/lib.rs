@@ -14,6 +14,7 @@ pub mod poker;
 pub mod refused_plans;
 pub mod rng;
 pub mod shape;
+pub mod slow;
 pub mod tables;
 
 mod grouping;

@@ -3,7 +3,7 @@
 use crate::rng::Rng;
 use crate::shape::{Growth, Shape};
 use reference::game::Player;
-use reference::limits::{LONGEST_PATH, MOST_ENTRIES, MOST_MOVES};
+use reference::limits::{LARGEST, LONGEST_PATH, MOST_ENTRIES, MOST_MOVES};
 
 #[derive(Clone, Copy)]
 pub(crate) enum DraftKind {
@@ -28,13 +28,19 @@ pub(crate) struct Tree {
 }
 
 impl Tree {
-    pub fn grow(rng: &mut Rng, shape: &Shape) -> Tree {
-        let most_nodes = shape.nodes.clamp(1, MOST_ENTRIES);
+    /// A leaf alone.
+    pub fn new(root_weight: u64) -> Tree {
         let mut tree = Tree {
             nodes: Vec::new(),
             open: Vec::new(),
         };
-        tree.add_leaf(0, 0, shape.root_weight.clamp(1, 4_095), 0);
+        tree.add_leaf(0, 0, root_weight.clamp(1, LARGEST), 0);
+        tree
+    }
+
+    pub fn grow(rng: &mut Rng, shape: &Shape) -> Tree {
+        let most_nodes = shape.nodes.clamp(1, MOST_ENTRIES);
+        let mut tree = Tree::new(shape.root_weight);
         while tree.nodes.len() < most_nodes && !tree.open.is_empty() {
             let leaf = tree.take_open(rng, shape.growth);
             let room = (most_nodes - tree.nodes.len()).min(MOST_MOVES);
@@ -72,17 +78,32 @@ impl Tree {
     fn expand(&mut self, rng: &mut Rng, shape: &Shape, leaf: usize, moves: usize) {
         let Draft { weight, depth, .. } = self.nodes[leaf];
         let by_chance = rng.percent(shape.chance_percent) && weight >= moves as u64;
-        let weights = if by_chance {
-            self.nodes[leaf].kind = DraftKind::Chance { moves };
-            rng.shares(weight, moves, 1)
+        if by_chance {
+            let weights = rng.shares(weight, moves, 1);
+            self.make_chance(leaf, weights);
         } else {
             let turn = if shape.in_turns { depth } else { rng.below(2) };
-            let player = Player::BOTH[turn % 2];
-            self.nodes[leaf].kind = DraftKind::Decision { player, moves };
-            vec![weight; moves]
-        };
+            self.make_decision(leaf, Player::BOTH[turn % 2], moves);
+        }
+    }
+
+    /// Makes a chance node of a leaf, with a leaf for each weight.
+    pub fn make_chance(&mut self, leaf: usize, weights: Vec<u64>) {
+        let moves = weights.len();
+        self.nodes[leaf].kind = DraftKind::Chance { moves };
+        self.add_children(leaf, weights);
+    }
+
+    /// Makes a decision of a leaf, with a leaf for each move.
+    pub fn make_decision(&mut self, leaf: usize, player: Player, moves: usize) {
+        self.nodes[leaf].kind = DraftKind::Decision { player, moves };
+        self.add_children(leaf, vec![self.nodes[leaf].weight; moves]);
+    }
+
+    fn add_children(&mut self, parent: usize, weights: Vec<u64>) {
+        let depth = self.nodes[parent].depth + 1;
         for (move_number, weight) in weights.into_iter().enumerate() {
-            self.add_leaf(leaf, move_number, weight, depth + 1);
+            self.add_leaf(parent, move_number, weight, depth);
         }
     }
 

@@ -5,6 +5,7 @@ use generator::named::{long_path, own_chain, wide_chance, wide_decision};
 use generator::plans::random_plan;
 use generator::rng::Rng;
 use generator::shape::{Growth, Payoffs, Shape};
+use generator::slow::{slow_game, slow_games_of_full_size, Slow};
 use generator::tables::{GameTables, Place, PlanWeights};
 use reference::form::{best_response, value_count};
 use reference::game::{check_game, Player};
@@ -68,14 +69,52 @@ fn deep_games_pass_and_reach_255_moves() {
     for _ in 0..10 {
         let shape = Shape::deep(&mut rng);
         let tables = random_game(&mut rng, &shape);
-        let parents = &tables.fields.parents;
-        let mut depths = vec![0; parents.len()];
-        for node in 1..parents.len() {
-            depths[node] = depths[parents[node] as usize] + 1;
-        }
-        assert_eq!(depths.iter().max(), Some(&255));
+        assert_eq!(longest_path(&tables), 255);
         assert_eq!(checked(&tables), Ok(()));
     }
+}
+
+/// The most moves from the root to a node.
+fn longest_path(tables: &GameTables) -> usize {
+    let parents = &tables.fields.parents;
+    let mut depths = vec![0; parents.len()];
+    for node in 1..parents.len() {
+        depths[node] = depths[parents[node] as usize] + 1;
+    }
+    depths.into_iter().max().unwrap_or(0)
+}
+
+#[test]
+fn slow_games_of_full_size_pass() {
+    let games = slow_games_of_full_size();
+    let (_, first) = &games[0];
+    assert_eq!(first.fields.kinds.len(), 4_094);
+    assert_eq!(first.fields.players.len(), 0);
+    assert_eq!(longest_path(first), 255);
+    for (name, tables) in games {
+        assert_eq!(checked(&tables), Ok(()), "{name}");
+        assert!(tables.fields.kinds.len() > 4_060, "{name}");
+        assert!(longest_path(&tables) > 120, "{name}");
+    }
+}
+
+#[test]
+fn slow_games_of_any_size_pass() {
+    let mut rng = Rng::new(65);
+    let mut reached = 0;
+    for round in 0..2_000 {
+        let most_nodes = if round % 50 == 0 {
+            4_095
+        } else {
+            1 + round % 300
+        };
+        let slow = Slow::random(&mut rng, most_nodes);
+        let tables = slow_game(&mut rng, &slow);
+        assert_eq!(checked(&tables), Ok(()), "{slow:?}");
+        assert!(tables.fields.kinds.len() <= most_nodes, "{slow:?}");
+        reached += usize::from(longest_path(&tables) == 255);
+    }
+    assert!(reached > 10, "{reached}");
 }
 
 /// Every number at its largest: 4,095 for D0, D1 and D2 and -32,768 or 32,767

@@ -1,51 +1,55 @@
--- The game's refusal comes first, then 17; an accepted game obeys the rules that the look-up asks for.
+-- The game's refusal comes first, then 17; an accepted game is loaded, with all that the look-up asks for.
 use borrow.Author.Needs.{needs}
 use mathlib.Core.Path.{ap, _∙_}
 use native.Mathlib.Omega.{arith}
+use Prim.Native.Nat.{_<_}
 use Rattle.model.specs.Call.{given}
+use Rattle.model.specs.Game.{gameOf}
 use Rattle.model.specs.calls.OwnSequence.{call}
-use Rattle.model.proofs.Checks.{game-rules}
-use Rattle.records.proofs.Headers.{header-sets, header-framed}
-use Rattle.game.proofs.Refusals.{Opened, opened, refused-with}
 use Rattle.lookups.proofs.Asked.{in-game, game-refused, number-missing, number-found}
-use Rattle.lookups.proofs.Answers.{sequence-is-read}
+use Rattle.lookups.proofs.Answers.{GameLoaded, game-loaded, load-refuses, sequence-is-read}
 use Rattle.lookups.proofs.own_sequence.Statement.{statement}
 use Rattle.lookups.proofs.own_sequence.Tie as tie
 
-game-opened : (c : tie.After-known-told) → Opened (c .before .before .before .before .before .args .game .now) (c .before .checked .given .0 .0)
-game-opened c = opened _ (c .before .before .before .check .ensures) (c .before .checked .given .1)
+was-loaded : (c : tie.After-known-told) → GameLoaded (c .before .before .before .before .before .before .before .before .before .args .game .now) (c .before .answer .given .0 .0 .sets) (c .before .before .before .before .before .load .last .1 .0)
+was-loaded c = game-loaded _ (c .before .before .before .before .before .load .ensures) (c .before .answer .given .1)
 
 refused : tie.Need-returns
 unfolding call
-refused c = game-refused _ _ _ _ (refused-with _ (c .before .before .before .check .ensures) (c .before .enum-told .given .1) (c .refusal .ensures))
+refused c = game-refused _ _ _ _ (load-refuses _ (c .before .before .before .before .before .load .ensures) (c .before .enum-told .given .1) (c .load-refusal .ensures))
 
 missing : tie.Need-returns-2
 unfolding call
 missing c =
-    let o = game-opened (c .before .before .before .before) in
-    number-missing _ _ _ _ (o .none) (header-sets _ _ (o .header)) (c .before .before .before .in-game .ensures) (c .before .enum-told3 .given .1) (c .number .ensures)
+    let o = was-loaded (c .before .before .before .before) in
+    number-missing _ _ _ _ (o .none) (o .sets-are) (c .before .before .before .in-game .ensures) (c .before .enum-told3 .given .1) (c .number .ensures)
 
-in-sets : tie.Need-own-sequence-requires
-in-sets c κs =
-    let o = game-opened (c .before .before .before .before) in
-    let h = o .header in
-    let n = c .before .before .before .before .before .before .before .before .before .args .number in
-    let k = c .before .before .before .before .before .checked .given .0 .0 .sets in
-    let l = in-game n k (c .before .before .before .in-game .ensures) (c .before .enum-told2 .given .1) in
-    (header-framed _ _ h, game-rules _ (o .none), header-sets _ _ h, omega (arith, l, c .index .ensures, header-sets _ _ h))
+-- the number is that of a set
+in-sets : (c : tie.After-index) → c .index .result < gameOf (c .before .before .before .before .before .before .before .before .before .before .before .before .before .before .args .game .now) .sets
+in-sets c =
+    let o = was-loaded (c .before .before .before .before .before) in
+    let n = c .before .before .before .before .before .before .before .before .before .before .before .before .before .before .args .number in
+    let k = c .before .before .before .before .before .before .answer .given .0 .0 .sets in
+    omega (arith, in-game n k (c .before .before .before .before .in-game .ensures) (c .before .before .enum-told2 .given .1), c .index .ensures, o .sets-are)
+
+own-sequence-requires : tie.Need-own-sequence-requires
+own-sequence-requires c κs =
+    let o = was-loaded (c .before .before .before .before .before) in
+    (_, _, in-sets c, o .in-numbers)
 
 found : tie.Need-returns-3
 unfolding call
 found c =
-    let o = game-opened (c .before .before .before .before .before) in
-    let n = c .before .before .before .before .before .before .before .before .before .before .args .number in
-    ap given (sequence-is-read _ {h = n} (c .own-sequence .ensures) (c .before .index .ensures))
-    ∙ number-found _ _ _ _ (o .none) (header-sets _ _ (o .header)) (c .before .before .before .before .in-game .ensures) (c .before .before .enum-told2 .given .1)
+    let o = was-loaded (c .before .before .before .before .before .before) in
+    ap given (sequence-is-read _ (c .own-sequence .ensures _ _ (in-sets (c .before)) (o .in-numbers)) (c .before .index .ensures))
+    ∙ number-found _ _ _ _ (o .none) (o .sets-are) (c .before .before .before .before .before .in-game .ensures) (c .before .before .before .enum-told2 .given .1)
 
 pub own-sequence-spec : {M : Type 1} → statement M
 own-sequence-spec =
     tie.close
     (tie.spec
+    (λ c. search needs)
+    (λ c. search needs)
     (λ c κs. search needs)
     (λ c. search needs)
     (λ c. search needs)
@@ -56,6 +60,7 @@ own-sequence-spec =
     (λ c. search needs)
     (λ c κs. search needs)
     missing
+    (λ c. search needs)
     (λ c κs. search needs)
-    in-sets
+    own-sequence-requires
     found)

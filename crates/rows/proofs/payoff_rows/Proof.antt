@@ -1,6 +1,6 @@
--- A walk of the MIR by hand: no branch and no loop. Seven arrays are lent to `laid_out`, come back, and are lent to `fill_rows`; the rows are given up to `fill_rows` for good.
+-- A walk of the MIR by hand: no branch and no loop. Four arrays are lent to `laid_out`, come back, and are lent to `fill_rows`; the rows are given up to `fill_rows` for good.
 use mathlib.Core.Path.{_≡_, refl}
-use Prim.Native.Nat.{ℕ, _^_}
+use Prim.Native.Nat.{ℕ, _≤_, _<_, _^_}
 use native.Mathlib.Omega.{arith}
 use mathlib.Core.List.{[], _∷_, List, map}
 use lib.Dec.{T as Holds, lit<}
@@ -30,7 +30,7 @@ use denote.Memory.{mem, shares}
 use denote.Laws.{Is, shows}
 use denote.Plain.{uint-makes, uint-lawful, nothing-lawful}
 use denote.Signed.{sint-makes, sint-lawful}
-use denote.Builtin.{u8, u64, i16, usize, unit}
+use denote.Builtin.{u8, u16, i16, usize, unit}
 use denote.Ref.{RefT, now}
 use denote.Slice.{sliceVal, MutSlice, ShrSlice, Room, finally, slice-vals, mut-slice-tells, shr-slice-tells, shr-slice-lawful, shr-slice-copy}
 use denote.Lend.{Held}
@@ -46,18 +46,20 @@ use denote.Triple.Walked.{says, Stays, stay-none-slice, gave-slice, walkOf, goes
 use denote.Exit.{yes}
 use denote.Signature.{plain}
 use Rattle.algebra.specs.Arrays.{over}
-use Rattle.model.specs.Limits.{countLimit}
 use Rattle.model.specs.Call.{outcome}
 use Rattle.model.specs.calls.PayoffTable.{payoffRows}
-use Rattle.payoff.specs.Table.{Leaves, leaves}
+use Rattle.loaded.specs.Sections.{numbersRoom, payoffsRoom}
+use Rattle.payoff.specs.Table.{Leaves, RowReady}
+use Rattle.payoff.specs.Layout.{leavesIn}
 use Rattle.rows.specs.declared.TableAnswer.{TableAnswer}
 use Rattle.rows.specs.Answers.{tableAnswered}
 use Rattle.rows.proofs.TableAnswer as E
 use Rattle.rows.proofs.TableAnswer.Laws as E′
 use Rattle.rows.specs.declared.Row.{Row}
 use Rattle.rows.specs.Answers.{modelRow}
-use Rattle.rows.specs.Rows.{Roomy, TableMade, rowsGiven, rowIn}
-use Rattle.rows.proofs.Rows.{Filled, filled}
+use Rattle.rows.specs.Rows.{Roomy, TableMade, rowsGiven, rowMade}
+use Rattle.rows.proofs.Answers.{rows-ready}
+use Rattle.rows.proofs.Rows.{rows-call}
 use Rattle.rows.proofs.Locals.{big-lit, ref, made-typed, made-lies, lends, shares-back, room-back}
 use Rattle.rows.proofs.Row as T
 use Rattle.rows.proofs.laid_out as laid-out
@@ -84,33 +86,36 @@ abbrev stayed : Stays (payoff-rows.ended .signature .params) (payoff-rows.ended 
 stayed = (stay-none-slice (0 ∷ []) tt (plain (λ _. u8)) yes, (gave-slice (1 ∷ []) tt (plain (λ _. R)), tt))
 
 -- an array's first element, and that the arrays have room
-usize-zero : Is usize 0 (vint w64 0 ∷ [])
-usize-zero = (refl, lit< tt)
+u16-zero : Is u16 0 (vint w16 0 ∷ [])
+u16-zero = (refl, lit< tt)
 
 i16-zero : Is i16 (pos 0) (vint w16 0 ∷ [])
 i16-zero = (refl, lit< tt)
 
-room-leaves : Room usize countLimit
-room-leaves = (lit< tt, lit< tt)
+room-numbers : Room u16 numbersRoom
+room-numbers = (lit< tt, lit< tt)
 
-room-payoffs : Room i16 countLimit
+room-payoffs : Room i16 payoffsRoom
 room-payoffs = (lit< tt, lit< tt)
 
-room-bounds : Room usize (2 ^ 12)
-room-bounds = (lit< tt, lit< tt)
+room-order : Room u16 (2 ^ 12)
+room-order = (lit< tt, lit< tt)
 
 -- the lists of the arrays, and their names
 abbrev Lists : Type 0
-Lists = List ℕ × (List ℕ × (List ℕ × (List ℤ × (List ℤ × (List ℕ × (List ℕ × Unit {0}))))))
+Lists = List ℕ × (List ℤ × (List ℕ × (List ℕ × Unit {0})))
 
 abbrev Names : Type 0
-Names = GName × (GName × (GName × (GName × (GName × (GName × (GName × Unit {0}))))))
+Names = GName × (GName × (GName × (GName × Unit {0})))
 
 abbrev leavesOf : Lists → Leaves
-leavesOf y = leaves (y .0) (y .1 .0) (y .1 .1 .0) (y .1 .1 .1 .0) (y .1 .1 .1 .1 .0) (y .1 .1 .1 .1 .1 .0) (y .1 .1 .1 .1 .1 .1 .0)
+leavesOf y = leavesIn (y .0) (y .1 .0) (y .1 .1 .0) (y .1 .1 .1 .0)
 
-long : (y₁ y₂ y₃ : List ℕ) (y₄ y₅ : List ℤ) (y₆ y₇ : List ℕ) → length y₁ ≡ countLimit → length y₂ ≡ countLimit → length y₃ ≡ countLimit → length y₄ ≡ countLimit → length y₅ ≡ countLimit → length y₆ ≡ countLimit → length y₇ ≡ (2 ^ 12) → Roomy (leavesOf (y₁, (y₂, (y₃, (y₄, (y₅, (y₆, (y₇, tt))))))))
-long y₁ y₂ y₃ y₄ y₅ y₆ y₇ e₁ e₂ e₃ e₄ e₅ e₆ e₇ = record { first = omega arith; second = omega arith; chance = omega arith; payoffs1 = omega arith; payoffs2 = omega arith; sorted = omega arith; bounds = omega arith }
+abbrev AllRoomy : Lists → Type 0
+AllRoomy y = Roomy (y .0) (y .1 .0) (y .1 .1 .0) (y .1 .1 .1 .0)
+
+long : (y₁ : List ℕ) (y₂ : List ℤ) (y₃ y₄ : List ℕ) → length y₁ ≡ numbersRoom → length y₂ ≡ payoffsRoom → length y₃ ≡ (2 ^ 12) → length y₄ ≡ (2 ^ 12) → AllRoomy (y₁, (y₂, (y₃, (y₄, tt))))
+long y₁ y₂ y₃ y₄ e₁ e₂ e₃ e₄ = record { numbers-long = omega arith; payoffs-long = omega arith; sorted-long = omega arith; bounds-long = omega arith }
 
 module _ {M : Type 1} (𝓤 : URA M) (H : Heap 𝓤) (A : Atoms 𝓤) (at-mem : Memory → SProp 𝓤) (run : Routine → Fun 𝓤) where
   -- the contracts that the proof cites
@@ -167,39 +172,39 @@ module _ {M : Type 1} (𝓤 : URA M) (H : Heap 𝓤) (A : Atoms 𝓤) (W : Given
   said-given : (r : TableAnswer) (n : ℕ) → ent 𝓤 (ensured 𝓤 H A rows-given.ended (rows-given.clauses 𝓤 H A at-mem run) tt (r, tt) tt n) (fact 𝓤 (n ≡ rowsGiven r))
   said-given r n = exE 𝓤 _ (λ ws. snd∗ 𝓤 (sem 𝓤 H A (lasts rows-given.ended tt (r, tt) ws)) (fact 𝓤 (n ≡ rowsGiven r)))
 
-  -- The arrays at l₃ to l₉.
-  module _ (l₃ l₄ l₅ l₆ l₇ l₈ l₉ : ℕ) where
+  -- The arrays at l₃ to l₆.
+  module _ (l₃ l₄ l₅ l₆ : ℕ) where
     abbrev Passed : Type 0
-    Passed = RefT (List ℕ) × (RefT (List ℕ) × (RefT (List ℕ) × (RefT (List ℤ) × (RefT (List ℤ) × (RefT (List ℕ) × (RefT (List ℕ) × Unit {0}))))))
+    Passed = RefT (List ℕ) × (RefT (List ℤ) × (RefT (List ℕ) × (RefT (List ℕ) × Unit {0})))
 
     abbrev passed : Lists → Names → Passed
-    passed y g = (ref l₃ (g .0) (y .0), (ref l₄ (g .1 .0) (y .1 .0), (ref l₅ (g .1 .1 .0) (y .1 .1 .0), (ref l₆ (g .1 .1 .1 .0) (y .1 .1 .1 .0), (ref l₇ (g .1 .1 .1 .1 .0) (y .1 .1 .1 .1 .0), (ref l₈ (g .1 .1 .1 .1 .1 .0) (y .1 .1 .1 .1 .1 .0), (ref l₉ (g .1 .1 .1 .1 .1 .1 .0) (y .1 .1 .1 .1 .1 .1 .0), tt)))))))
+    passed y g = (ref l₃ (g .0) (y .0), (ref l₄ (g .1 .0) (y .1 .0), (ref l₅ (g .1 .1 .0) (y .1 .1 .0), (ref l₆ (g .1 .1 .1 .0) (y .1 .1 .1 .0), tt))))
 
-    abbrev slices : List Val × (List Val × (List Val × (List Val × (List Val × (List Val × (List Val × Unit {0}))))))
-    slices = (sliceVal (l₃, 0) countLimit ∷ [], (sliceVal (l₄, 0) countLimit ∷ [], (sliceVal (l₅, 0) countLimit ∷ [], (sliceVal (l₆, 0) countLimit ∷ [], (sliceVal (l₇, 0) countLimit ∷ [], (sliceVal (l₈, 0) countLimit ∷ [], (sliceVal (l₉, 0) (2 ^ 12) ∷ [], tt)))))))
+    abbrev slices : List Val × (List Val × (List Val × (List Val × Unit {0})))
+    slices = (sliceVal (l₃, 0) numbersRoom ∷ [], (sliceVal (l₄, 0) payoffsRoom ∷ [], (sliceVal (l₅, 0) (2 ^ 12) ∷ [], (sliceVal (l₆, 0) (2 ^ 12) ∷ [], tt))))
 
     -- the call of `laid_out`: what it is passed, and what it asks
     abbrev to-laid : ℕ → Lists → Names → LaidOut 𝓤 H A at-mem run .Ghost
     to-laid ν y g = (((κ, (ν ∷ [], tt)), (q, (fullShare, tt)), tt, (game, (length ys, passed y g)), (vg ∷ [], (vint w64 (length ys) ∷ [], slices))), tt)
 
-    goes-laid : (ν : ℕ) (y : Lists) (g : Names) → Roomy (leavesOf y) → Room R (length ys)
-        → ent 𝓤 (⋆ 𝓤 H A (‵ (flft κ q) ∷ ‵ (flft (ν ∷ []) fullShare) ∷ ‵ Game ∷ ‵ (Column ν usize countLimit l₃ (g .0) (y .0)) ∷ ‵ (Column ν usize countLimit l₄ (g .1 .0) (y .1 .0)) ∷ ‵ (Column ν u64 countLimit l₅ (g .1 .1 .0) (y .1 .1 .0)) ∷ ‵ (Column ν i16 countLimit l₆ (g .1 .1 .1 .0) (y .1 .1 .1 .0)) ∷ ‵ (Column ν i16 countLimit l₇ (g .1 .1 .1 .1 .0) (y .1 .1 .1 .1 .0)) ∷ ‵ (Column ν usize countLimit l₈ (g .1 .1 .1 .1 .1 .0) (y .1 .1 .1 .1 .1 .0)) ∷ ‵ (Column ν usize (2 ^ 12) l₉ (g .1 .1 .1 .1 .1 .1 .0) (y .1 .1 .1 .1 .1 .1 .0)) ∷ [])) (LaidOut 𝓤 H A at-mem run .pre (to-laid ν y g))
+    goes-laid : (ν : ℕ) (y : Lists) (g : Names) → AllRoomy y → Room R (length ys)
+        → ent 𝓤 (⋆ 𝓤 H A (‵ (flft κ q) ∷ ‵ (flft (ν ∷ []) fullShare) ∷ ‵ Game ∷ ‵ (Column ν u16 numbersRoom l₃ (g .0) (y .0)) ∷ ‵ (Column ν i16 payoffsRoom l₄ (g .1 .0) (y .1 .0)) ∷ ‵ (Column ν u16 (2 ^ 12) l₅ (g .1 .1 .0) (y .1 .1 .0)) ∷ ‵ (Column ν u16 (2 ^ 12) l₆ (g .1 .1 .1 .0) (y .1 .1 .1 .0)) ∷ [])) (LaidOut 𝓤 H A at-mem run .pre (to-laid ν y g))
     goes-laid ν y g many room =
-        qed W (‵ (flft κ q) ∷ ‵ (flft (ν ∷ []) fullShare) ∷ ‵ Game ∷ ‵ (Column ν usize countLimit l₃ (g .0) (y .0)) ∷ ‵ (Column ν usize countLimit l₄ (g .1 .0) (y .1 .0)) ∷ ‵ (Column ν u64 countLimit l₅ (g .1 .1 .0) (y .1 .1 .0)) ∷ ‵ (Column ν i16 countLimit l₆ (g .1 .1 .1 .0) (y .1 .1 .1 .0)) ∷ ‵ (Column ν i16 countLimit l₇ (g .1 .1 .1 .1 .0) (y .1 .1 .1 .1 .0)) ∷ ‵ (Column ν usize countLimit l₈ (g .1 .1 .1 .1 .1 .0) (y .1 .1 .1 .1 .1 .0)) ∷ ‵ (Column ν usize (2 ^ 12) l₉ (g .1 .1 .1 .1 .1 .1 .0) (y .1 .1 .1 .1 .1 .1 .0)) ∷ []) ∵ says ! many $
+        qed W (‵ (flft κ q) ∷ ‵ (flft (ν ∷ []) fullShare) ∷ ‵ Game ∷ ‵ (Column ν u16 numbersRoom l₃ (g .0) (y .0)) ∷ ‵ (Column ν i16 payoffsRoom l₄ (g .1 .0) (y .1 .0)) ∷ ‵ (Column ν u16 (2 ^ 12) l₅ (g .1 .1 .0) (y .1 .1 .0)) ∷ ‵ (Column ν u16 (2 ^ 12) l₆ (g .1 .1 .1 .0) (y .1 .1 .1 .0)) ∷ []) ∵ says ! many $
         nothing ! $ move ! (2 ∷ 0 ∷ []) $ join ! $ move ! (1 ∷ 0 ∷ []) $ join ! $ frame ! $
-        nothing ! $ move ! (8 ∷ 0 ∷ []) $ fjoin ! $ move ! (7 ∷ 0 ∷ []) $ fjoin ! $ move ! (6 ∷ 0 ∷ []) $ fjoin ! $ move ! (5 ∷ 0 ∷ []) $ fjoin ! $ move ! (4 ∷ 0 ∷ []) $ fjoin ! $ move ! (3 ∷ 0 ∷ []) $ fjoin ! $ move ! (2 ∷ 0 ∷ []) $ fjoin ! $
+        nothing ! $ move ! (5 ∷ 0 ∷ []) $ fjoin ! $ move ! (4 ∷ 0 ∷ []) $ fjoin ! $ move ! (3 ∷ 0 ∷ []) $ fjoin ! $ move ! (2 ∷ 0 ∷ []) $ fjoin ! $
         owned ! usize (Is usize) (uint-makes 𝓤 H A W w64) (length ys) _ (refl, room .0) $ fjoin ! $ move ! (1 ∷ 0 ∷ []) $ fjoin ! $ done !
 
     -- the call of `fill_rows`
     abbrev to-fill : (ν n : ℕ) → Val → Lists → Names → FillRows 𝓤 H A at-mem run .Ghost
     to-fill ν n u y g = (((κ′, (ν ∷ [], tt)), (q′, (fullShare, tt)), tt, (x ys, (n, passed y g)), (v ∷ [], (u ∷ [], slices))), tt)
 
-    goes-fill : (ν n : ℕ) (u : Val) (y : Lists) (g : Names) → Is usize n (u ∷ []) → {r : TableAnswer} → Filled (now game) ys r n (leavesOf y)
-        → ent 𝓤 (⋆ 𝓤 H A (‵ (flft κ′ q′) ∷ ‵ (flft (ν ∷ []) fullShare) ∷ ‵ (MutSlice (named 1) κ′ R .own (x ys) (v ∷ [])) ∷ ‵ (Shared ν usize countLimit l₃ (g .0) (y .0)) ∷ ‵ (Shared ν usize countLimit l₄ (g .1 .0) (y .1 .0)) ∷ ‵ (Shared ν u64 countLimit l₅ (g .1 .1 .0) (y .1 .1 .0)) ∷ ‵ (Shared ν i16 countLimit l₆ (g .1 .1 .1 .0) (y .1 .1 .1 .0)) ∷ ‵ (Shared ν i16 countLimit l₇ (g .1 .1 .1 .1 .0) (y .1 .1 .1 .1 .0)) ∷ ‵ (Shared ν usize countLimit l₈ (g .1 .1 .1 .1 .1 .0) (y .1 .1 .1 .1 .1 .0)) ∷ ‵ (Shared ν usize (2 ^ 12) l₉ (g .1 .1 .1 .1 .1 .1 .0) (y .1 .1 .1 .1 .1 .1 .0)) ∷ [])) (FillRows 𝓤 H A at-mem run .pre (to-fill ν n u y g))
-    goes-fill ν n u y g is h =
-        qed W (‵ (flft κ′ q′) ∷ ‵ (flft (ν ∷ []) fullShare) ∷ ‵ (MutSlice (named 1) κ′ R .own (x ys) (v ∷ [])) ∷ ‵ (Shared ν usize countLimit l₃ (g .0) (y .0)) ∷ ‵ (Shared ν usize countLimit l₄ (g .1 .0) (y .1 .0)) ∷ ‵ (Shared ν u64 countLimit l₅ (g .1 .1 .0) (y .1 .1 .0)) ∷ ‵ (Shared ν i16 countLimit l₆ (g .1 .1 .1 .0) (y .1 .1 .1 .0)) ∷ ‵ (Shared ν i16 countLimit l₇ (g .1 .1 .1 .1 .0) (y .1 .1 .1 .1 .0)) ∷ ‵ (Shared ν usize countLimit l₈ (g .1 .1 .1 .1 .1 .0) (y .1 .1 .1 .1 .1 .0)) ∷ ‵ (Shared ν usize (2 ^ 12) l₉ (g .1 .1 .1 .1 .1 .1 .0) (y .1 .1 .1 .1 .1 .1 .0)) ∷ []) ∵ says ! (h .in-rows, h .all-ready) $
+    goes-fill : (ν n : ℕ) (u : Val) (y : Lists) (g : Names) → Is usize n (u ∷ []) → (n ≤ length ys) × ((k : ℕ) → k < n → RowReady (leavesOf y) k)
+        → ent 𝓤 (⋆ 𝓤 H A (‵ (flft κ′ q′) ∷ ‵ (flft (ν ∷ []) fullShare) ∷ ‵ (MutSlice (named 1) κ′ R .own (x ys) (v ∷ [])) ∷ ‵ (Shared ν u16 numbersRoom l₃ (g .0) (y .0)) ∷ ‵ (Shared ν i16 payoffsRoom l₄ (g .1 .0) (y .1 .0)) ∷ ‵ (Shared ν u16 (2 ^ 12) l₅ (g .1 .1 .0) (y .1 .1 .0)) ∷ ‵ (Shared ν u16 (2 ^ 12) l₆ (g .1 .1 .1 .0) (y .1 .1 .1 .0)) ∷ [])) (FillRows 𝓤 H A at-mem run .pre (to-fill ν n u y g))
+    goes-fill ν n u y g is ready =
+        qed W (‵ (flft κ′ q′) ∷ ‵ (flft (ν ∷ []) fullShare) ∷ ‵ (MutSlice (named 1) κ′ R .own (x ys) (v ∷ [])) ∷ ‵ (Shared ν u16 numbersRoom l₃ (g .0) (y .0)) ∷ ‵ (Shared ν i16 payoffsRoom l₄ (g .1 .0) (y .1 .0)) ∷ ‵ (Shared ν u16 (2 ^ 12) l₅ (g .1 .1 .0) (y .1 .1 .0)) ∷ ‵ (Shared ν u16 (2 ^ 12) l₆ (g .1 .1 .1 .0) (y .1 .1 .1 .0)) ∷ []) ∵ says ! ready $
         nothing ! $ move ! (2 ∷ 0 ∷ []) $ join ! $ move ! (1 ∷ 0 ∷ []) $ join ! $ frame ! $
-        nothing ! $ move ! (8 ∷ 0 ∷ []) $ fjoin ! $ move ! (7 ∷ 0 ∷ []) $ fjoin ! $ move ! (6 ∷ 0 ∷ []) $ fjoin ! $ move ! (5 ∷ 0 ∷ []) $ fjoin ! $ move ! (4 ∷ 0 ∷ []) $ fjoin ! $ move ! (3 ∷ 0 ∷ []) $ fjoin ! $ move ! (2 ∷ 0 ∷ []) $ fjoin ! $
+        nothing ! $ move ! (5 ∷ 0 ∷ []) $ fjoin ! $ move ! (4 ∷ 0 ∷ []) $ fjoin ! $ move ! (3 ∷ 0 ∷ []) $ fjoin ! $ move ! (2 ∷ 0 ∷ []) $ fjoin ! $
         owned ! usize (Is usize) (uint-makes 𝓤 H A W w64) n (u ∷ []) is $ fjoin ! $ move ! (1 ∷ 0 ∷ []) $ fjoin ! $ done !
 
   -- what is known afterwards
@@ -210,10 +215,10 @@ module _ {M : Type 1} (𝓤 : URA M) (H : Heap 𝓤) (A : Atoms 𝓤) (W : Given
   IsLaid r zs = TableMade (now game) (length ys) r (leavesOf (zs .1 .1))
 
   abbrev Rowed : Type 0
-  Rowed = List Row × (Unit {0} × (Unit {0} × (Unit {0} × (Unit {0} × (Unit {0} × (Unit {0} × (Unit {0} × (Unit {0} × Unit {0}))))))))
+  Rowed = List Row × (Unit {0} × (Unit {0} × (Unit {0} × (Unit {0} × (Unit {0} × Unit {0})))))
 
   abbrev IsFilled : ℕ → Lists → Rowed → Type 0
-  IsFilled n y xs = xs .0 ≡ over (rowIn (leavesOf y)) n ys
+  IsFilled n y xs = xs .0 ≡ over (rowMade (leavesOf y)) n ys
 
   exits : (r : TableAnswer) (w : Val) (xs : List Row) → Is E.the-row r (w ∷ []) → outcome (tableAnswered r) (map modelRow xs, tt) ≡ payoffRows (now game) (map modelRow ys) → length xs ≡ length ys
       → ent 𝓤 (⋆ 𝓤 H A (‵ (flft κ q) ∷ ‵ (flft κ′ q′) ∷ ‵ Game ∷ ‵ (finally R γ xs) ∷ [])) (Post w)
@@ -227,83 +232,65 @@ module _ {M : Type 1} (𝓤 : URA M) (H : Heap 𝓤) (A : Atoms 𝓤) (W : Given
     walk : Is (ShrSlice (named 0) κ u8) game (vg ∷ []) → Room R (length ys) → ent 𝓤 (onEntry 𝓤 H A payoff-rows.signature (κ, (κ′, tt)) (q, (q′, tt)) a vals) (WpFn 𝓤 H C Λ code.function (vg ∷ v ∷ []) Post)
     walk is room =
         qed W ((‵ (flft κ q) ⊛ ‵ (flft κ′ q′) ⊛ ‵ ftrue) ∷ ‵ (owns (ShrSlice (named 0) κ u8 ∷ MutSlice (named 1) κ′ R ∷ []) a vals) ∷ []) ∵ enter ! C Λ code.function (vg ∷ v ∷ []) _ $
-        alloc1 ! (λ l₀. alloc1 ! (λ l₁. alloc1 ! (λ l₂. alloc1 ! (λ l₃. alloc1 ! (λ l₄. alloc1 ! (λ l₅. alloc1 ! (λ l₆. alloc1 ! (λ l₇. alloc1 ! (λ l₈. alloc1 ! (λ l₉. alloc1 ! (λ l₁₀. alloc1 ! (λ l₁₁. alloc1 ! (λ l₁₂. alloc1 ! (λ l₁₃. alloc1 ! (λ l₁₄. alloc1 ! (λ l₁₅. alloc1 ! (λ l₁₆. alloc1 ! (λ l₁₇. alloc1 ! (λ l₁₈. alloc1 ! (λ l₁₉. alloc1 ! (λ l₂₀. alloc1 ! (λ l₂₁. alloc1 ! (λ l₂₂. alloc1 ! (λ l₂₃. alloc1 ! (λ l₂₄. alloc1 ! (λ l₂₅. alloc1 ! (λ l₂₆. alloc1 ! (λ l₂₇. alloc1 ! (λ l₂₈. alloc1 ! (λ l₂₉. alloc1 ! (λ l₃₀. alloc1 ! (λ l₃₁. alloc1 ! (λ l₃₂. alloc1 ! (λ l₃₃. alloc1 ! (λ l₃₄. alloc1 ! (λ l₃₅. alloc1 ! (λ l₃₆. alloc1 ! (λ l₃₇. alloc1 ! (λ l₃₈. alloc1 ! (λ l₃₉. alloc1 ! (λ l₄₀. alloc1 ! (λ l₄₁. alloc1 ! (λ l₄₂. alloc0 ! $ params1 ! $
-        pass1 ! (init ! 82 refl (shr-slice-lawful 𝓤 H A W (named 0) κ u8 .typed game _ is .0)) $ pass1 ! (init ! 80 refl (tt, (tt, (record { fits = room .0 }, tt)))) $ pass0 ! $
+        alloc1 ! (λ l₀. alloc1 ! (λ l₁. alloc1 ! (λ l₂. alloc1 ! (λ l₃. alloc1 ! (λ l₄. alloc1 ! (λ l₅. alloc1 ! (λ l₆. alloc1 ! (λ l₇. alloc1 ! (λ l₈. alloc1 ! (λ l₉. alloc1 ! (λ l₁₀. alloc1 ! (λ l₁₁. alloc1 ! (λ l₁₂. alloc1 ! (λ l₁₃. alloc1 ! (λ l₁₄. alloc1 ! (λ l₁₅. alloc1 ! (λ l₁₆. alloc1 ! (λ l₁₇. alloc1 ! (λ l₁₈. alloc1 ! (λ l₁₉. alloc1 ! (λ l₂₀. alloc1 ! (λ l₂₁. alloc1 ! (λ l₂₂. alloc1 ! (λ l₂₃. alloc1 ! (λ l₂₄. alloc1 ! (λ l₂₅. alloc1 ! (λ l₂₆. alloc1 ! (λ l₂₇. alloc0 ! $ params1 ! $
+        pass1 ! (init ! 52 refl (shr-slice-lawful 𝓤 H A W (named 0) κ u8 .typed game _ is .0)) $ pass1 ! (init ! 50 refl (tt, (tt, (record { fits = room .0 }, tt)))) $ pass0 ! $
         -- arrays of zeros, of each the number of its elements
-        assigns ! (rep ! countLimit (lit ! tt)) (from ! (stop !)) (init ! 78 refl (made-typed 𝓤 H A W usize countLimit l₃ 0 (vint w64 0) usize-zero (uint-lawful 𝓤 H A W w64))) $ move ! (78 ∷ []) $ use1 W (some (λ (l : List (usize .Denot)). given (length l ≡ countLimit) (‵ (cells (mem usize) l l₃ 0)))) (made-lies 𝓤 H A W usize countLimit l₃ 0 (vint w64 0) usize-zero (uint-makes 𝓤 H A W w64) tt) $ pick ! (λ y₁. learn ! (λ e₁.
-        assigns ! (rep ! countLimit (lit ! tt)) (from ! (stop !)) (init ! 77 refl (made-typed 𝓤 H A W usize countLimit l₄ 0 (vint w64 0) usize-zero (uint-lawful 𝓤 H A W w64))) $ move ! (77 ∷ []) $ use1 W (some (λ (l : List (usize .Denot)). given (length l ≡ countLimit) (‵ (cells (mem usize) l l₄ 0)))) (made-lies 𝓤 H A W usize countLimit l₄ 0 (vint w64 0) usize-zero (uint-makes 𝓤 H A W w64) tt) $ pick ! (λ y₂. learn ! (λ e₂.
-        assigns ! (rep ! countLimit (lit ! tt)) (from ! (stop !)) (init ! 76 refl (made-typed 𝓤 H A W u64 countLimit l₅ 0 (vint w64 0) usize-zero (uint-lawful 𝓤 H A W w64))) $ move ! (76 ∷ []) $ use1 W (some (λ (l : List (u64 .Denot)). given (length l ≡ countLimit) (‵ (cells (mem u64) l l₅ 0)))) (made-lies 𝓤 H A W u64 countLimit l₅ 0 (vint w64 0) usize-zero (uint-makes 𝓤 H A W w64) tt) $ pick ! (λ y₃. learn ! (λ e₃.
-        assigns ! (rep ! countLimit (lit ! tt)) (from ! (stop !)) (init ! 75 refl (made-typed 𝓤 H A W i16 countLimit l₆ (pos 0) (vint w16 0) i16-zero (sint-lawful 𝓤 H A W w16))) $ move ! (75 ∷ []) $ use1 W (some (λ (l : List (i16 .Denot)). given (length l ≡ countLimit) (‵ (cells (mem i16) l l₆ 0)))) (made-lies 𝓤 H A W i16 countLimit l₆ (pos 0) (vint w16 0) i16-zero (sint-makes 𝓤 H A W w16) tt) $ pick ! (λ y₄. learn ! (λ e₄.
-        assigns ! (rep ! countLimit (lit ! tt)) (from ! (stop !)) (init ! 74 refl (made-typed 𝓤 H A W i16 countLimit l₇ (pos 0) (vint w16 0) i16-zero (sint-lawful 𝓤 H A W w16))) $ move ! (74 ∷ []) $ use1 W (some (λ (l : List (i16 .Denot)). given (length l ≡ countLimit) (‵ (cells (mem i16) l l₇ 0)))) (made-lies 𝓤 H A W i16 countLimit l₇ (pos 0) (vint w16 0) i16-zero (sint-makes 𝓤 H A W w16) tt) $ pick ! (λ y₅. learn ! (λ e₅.
-        assigns ! (rep ! countLimit (lit ! tt)) (from ! (stop !)) (init ! 73 refl (made-typed 𝓤 H A W usize countLimit l₈ 0 (vint w64 0) usize-zero (uint-lawful 𝓤 H A W w64))) $ move ! (73 ∷ []) $ use1 W (some (λ (l : List (usize .Denot)). given (length l ≡ countLimit) (‵ (cells (mem usize) l l₈ 0)))) (made-lies 𝓤 H A W usize countLimit l₈ 0 (vint w64 0) usize-zero (uint-makes 𝓤 H A W w64) tt) $ pick ! (λ y₆. learn ! (λ e₆.
-        assigns ! (rep ! (2 ^ 12) (lit ! tt)) (from ! (stop !)) (init ! 72 refl (made-typed 𝓤 H A W usize (2 ^ 12) l₉ 0 (vint w64 0) usize-zero (uint-lawful 𝓤 H A W w64))) $ move ! (72 ∷ []) $ use1 W (some (λ (l : List (usize .Denot)). given (length l ≡ (2 ^ 12)) (‵ (cells (mem usize) l l₉ 0)))) (made-lies 𝓤 H A W usize (2 ^ 12) l₉ 0 (vint w64 0) usize-zero (uint-makes 𝓤 H A W w64) tt) $ pick ! (λ y₇. learn ! (λ e₇.
+        assigns ! (rep ! numbersRoom (lit ! tt)) (from ! (stop !)) (init ! 48 refl (made-typed 𝓤 H A W u16 numbersRoom l₃ 0 (vint w16 0) u16-zero (uint-lawful 𝓤 H A W w16))) $ move ! (48 ∷ []) $ use1 W (some (λ (l : List (u16 .Denot)). given (length l ≡ numbersRoom) (‵ (cells (mem u16) l l₃ 0)))) (made-lies 𝓤 H A W u16 numbersRoom l₃ 0 (vint w16 0) u16-zero (uint-makes 𝓤 H A W w16) tt) $ pick ! (λ y₁. learn ! (λ e₁.
+        assigns ! (rep ! payoffsRoom (lit ! tt)) (from ! (stop !)) (init ! 47 refl (made-typed 𝓤 H A W i16 payoffsRoom l₄ (pos 0) (vint w16 0) i16-zero (sint-lawful 𝓤 H A W w16))) $ move ! (47 ∷ []) $ use1 W (some (λ (l : List (i16 .Denot)). given (length l ≡ payoffsRoom) (‵ (cells (mem i16) l l₄ 0)))) (made-lies 𝓤 H A W i16 payoffsRoom l₄ (pos 0) (vint w16 0) i16-zero (sint-makes 𝓤 H A W w16) tt) $ pick ! (λ y₂. learn ! (λ e₂.
+        assigns ! (rep ! (2 ^ 12) (lit ! tt)) (from ! (stop !)) (init ! 46 refl (made-typed 𝓤 H A W u16 (2 ^ 12) l₅ 0 (vint w16 0) u16-zero (uint-lawful 𝓤 H A W w16))) $ move ! (46 ∷ []) $ use1 W (some (λ (l : List (u16 .Denot)). given (length l ≡ (2 ^ 12)) (‵ (cells (mem u16) l l₅ 0)))) (made-lies 𝓤 H A W u16 (2 ^ 12) l₅ 0 (vint w16 0) u16-zero (uint-makes 𝓤 H A W w16) tt) $ pick ! (λ y₃. learn ! (λ e₃.
+        assigns ! (rep ! (2 ^ 12) (lit ! tt)) (from ! (stop !)) (init ! 45 refl (made-typed 𝓤 H A W u16 (2 ^ 12) l₆ 0 (vint w16 0) u16-zero (uint-lawful 𝓤 H A W w16))) $ move ! (45 ∷ []) $ use1 W (some (λ (l : List (u16 .Denot)). given (length l ≡ (2 ^ 12)) (‵ (cells (mem u16) l l₆ 0)))) (made-lies 𝓤 H A W u16 (2 ^ 12) l₆ 0 (vint w16 0) u16-zero (uint-makes 𝓤 H A W w16) tt) $ pick ! (λ y₄. learn ! (λ e₄.
         -- the slices that `laid_out` is lent
-        assigns ! (of-opd ! (load ! (from ! (fld ! refl (stop !))) (look-in ! 80 (sub ! 1 refl (whole !))))) (from ! (stop !)) (init ! 69 refl (tt, record { fits = room .0 })) $
-        assigns ! (addr ! (from ! (stop !))) (from ! (stop !)) (init ! 67 refl (tt, tt)) $ assigns ! (agg ! (and-then ! (load ! (from ! (stop !)) (look ! 67 refl)) (and-then ! (big-lit ! (record { fits = lit< tt })) (no-more !)))) (from ! (stop !)) (init ! 65 refl (tt, (tt, (record { fits = lit< tt }, tt)))) $
-        assigns ! (addr ! (from ! (stop !))) (from ! (stop !)) (init ! 63 refl (tt, tt)) $ assigns ! (agg ! (and-then ! (load ! (from ! (stop !)) (look ! 63 refl)) (and-then ! (big-lit ! (record { fits = lit< tt })) (no-more !)))) (from ! (stop !)) (init ! 61 refl (tt, (tt, (record { fits = lit< tt }, tt)))) $
-        assigns ! (addr ! (from ! (stop !))) (from ! (stop !)) (init ! 59 refl (tt, tt)) $ assigns ! (agg ! (and-then ! (load ! (from ! (stop !)) (look ! 59 refl)) (and-then ! (big-lit ! (record { fits = lit< tt })) (no-more !)))) (from ! (stop !)) (init ! 57 refl (tt, (tt, (record { fits = lit< tt }, tt)))) $
-        assigns ! (addr ! (from ! (stop !))) (from ! (stop !)) (init ! 55 refl (tt, tt)) $ assigns ! (agg ! (and-then ! (load ! (from ! (stop !)) (look ! 55 refl)) (and-then ! (big-lit ! (record { fits = lit< tt })) (no-more !)))) (from ! (stop !)) (init ! 53 refl (tt, (tt, (record { fits = lit< tt }, tt)))) $
-        assigns ! (addr ! (from ! (stop !))) (from ! (stop !)) (init ! 51 refl (tt, tt)) $ assigns ! (agg ! (and-then ! (load ! (from ! (stop !)) (look ! 51 refl)) (and-then ! (big-lit ! (record { fits = lit< tt })) (no-more !)))) (from ! (stop !)) (init ! 49 refl (tt, (tt, (record { fits = lit< tt }, tt)))) $
-        assigns ! (addr ! (from ! (stop !))) (from ! (stop !)) (init ! 47 refl (tt, tt)) $ assigns ! (agg ! (and-then ! (load ! (from ! (stop !)) (look ! 47 refl)) (and-then ! (big-lit ! (record { fits = lit< tt })) (no-more !)))) (from ! (stop !)) (init ! 45 refl (tt, (tt, (record { fits = lit< tt }, tt)))) $
-        assigns ! (addr ! (from ! (stop !))) (from ! (stop !)) (init ! 43 refl (tt, tt)) $ assigns ! (agg ! (and-then ! (load ! (from ! (stop !)) (look ! 43 refl)) (and-then ! (big-lit ! (record { fits = lit< tt })) (no-more !)))) (from ! (stop !)) (init ! 41 refl (tt, (tt, (record { fits = lit< tt }, tt)))) $
-        lft-new ! tt (λ ν.
-        move ! (7 ∷ []) $ use1 W (later (some (λ (δ : GName). ‵ (Column ν usize countLimit l₃ δ y₁) ⊛ ‵ (flent (ν ∷ []) (Held usize countLimit l₃ 0 δ))))) (lends 𝓤 H A W usize countLimit l₃ (named 1) (ν ∷ []) y₁ e₁ room-leaves) $ await ! tt $ pick ! (λ γ₁. split ! $
-        move ! (8 ∷ []) $ use1 W (later (some (λ (δ : GName). ‵ (Column ν usize countLimit l₄ δ y₂) ⊛ ‵ (flent (ν ∷ []) (Held usize countLimit l₄ 0 δ))))) (lends 𝓤 H A W usize countLimit l₄ (named 1) (ν ∷ []) y₂ e₂ room-leaves) $ await ! tt $ pick ! (λ γ₂. split ! $
-        move ! (9 ∷ []) $ use1 W (later (some (λ (δ : GName). ‵ (Column ν u64 countLimit l₅ δ y₃) ⊛ ‵ (flent (ν ∷ []) (Held u64 countLimit l₅ 0 δ))))) (lends 𝓤 H A W u64 countLimit l₅ (named 1) (ν ∷ []) y₃ e₃ room-leaves) $ await ! tt $ pick ! (λ γ₃. split ! $
-        move ! (10 ∷ []) $ use1 W (later (some (λ (δ : GName). ‵ (Column ν i16 countLimit l₆ δ y₄) ⊛ ‵ (flent (ν ∷ []) (Held i16 countLimit l₆ 0 δ))))) (lends 𝓤 H A W i16 countLimit l₆ (named 1) (ν ∷ []) y₄ e₄ room-payoffs) $ await ! tt $ pick ! (λ γ₄. split ! $
-        move ! (11 ∷ []) $ use1 W (later (some (λ (δ : GName). ‵ (Column ν i16 countLimit l₇ δ y₅) ⊛ ‵ (flent (ν ∷ []) (Held i16 countLimit l₇ 0 δ))))) (lends 𝓤 H A W i16 countLimit l₇ (named 1) (ν ∷ []) y₅ e₅ room-payoffs) $ await ! tt $ pick ! (λ γ₅. split ! $
-        move ! (12 ∷ []) $ use1 W (later (some (λ (δ : GName). ‵ (Column ν usize countLimit l₈ δ y₆) ⊛ ‵ (flent (ν ∷ []) (Held usize countLimit l₈ 0 δ))))) (lends 𝓤 H A W usize countLimit l₈ (named 1) (ν ∷ []) y₆ e₆ room-leaves) $ await ! tt $ pick ! (λ γ₆. split ! $
-        move ! (13 ∷ []) $ use1 W (later (some (λ (δ : GName). ‵ (Column ν usize (2 ^ 12) l₉ δ y₇) ⊛ ‵ (flent (ν ∷ []) (Held usize (2 ^ 12) l₉ 0 δ))))) (lends 𝓤 H A W usize (2 ^ 12) l₉ (named 1) (ν ∷ []) y₇ e₇ room-bounds) $ await ! tt $ pick ! (λ γ₇. split ! $
-        -- `laid_out`
-        move ! (94 ∷ []) $ split ! $ move ! (96 ∷ []) $ fsplit ! $ use1 W (‵ Game ⊛ ‵ Game) (shr-slice-copy 𝓤 H A W (named 0) κ u8 .twice game (vg ∷ [])) $ split ! $ move ! (2 ∷ []) $ fsplit ! $
-        move ! (4 ∷ 20 ∷ 3 ∷ 18 ∷ 16 ∷ 14 ∷ 12 ∷ 10 ∷ 8 ∷ 6 ∷ []) $ group ! 10 $ use1 W (raw (LaidOut 𝓤 H A at-mem run .pre (to-laid l₃ l₄ l₅ l₆ l₇ l₈ l₉ ν (y₁, (y₂, (y₃, (y₄, (y₅, (y₆, (y₇, tt))))))) (γ₁, (γ₂, (γ₃, (γ₄, (γ₅, (γ₆, (γ₇, tt)))))))))) (goes-laid l₃ l₄ l₅ l₆ l₇ l₈ l₉ ν (y₁, (y₂, (y₃, (y₄, (y₅, (y₆, (y₇, tt))))))) (γ₁, (γ₂, (γ₃, (γ₄, (γ₅, (γ₆, (γ₇, tt))))))) (long y₁ y₂ y₃ y₄ y₅ y₆ y₇ e₁ e₂ e₃ e₄ e₅ e₆ e₇) room) $
-        calls-at ! fm (LaidOut 𝓤 H A at-mem run) known-laid (to-laid l₃ l₄ l₅ l₆ l₇ l₈ l₉ ν (y₁, (y₂, (y₃, (y₄, (y₅, (y₆, (y₇, tt))))))) (γ₁, (γ₂, (γ₃, (γ₄, (γ₅, (γ₆, (γ₇, tt)))))))) (and-then ! (load ! (from ! (stop !)) (look ! 87 refl)) (and-then ! (load ! (from ! (stop !)) (look ! 74 refl)) (and-then ! (load ! (from ! (stop !)) (look ! 70 refl)) (and-then ! (load ! (from ! (stop !)) (look ! 66 refl)) (and-then ! (load ! (from ! (stop !)) (look ! 62 refl)) (and-then ! (load ! (from ! (stop !)) (look ! 58 refl)) (and-then ! (load ! (from ! (stop !)) (look ! 54 refl)) (and-then ! (load ! (from ! (stop !)) (look ! 50 refl)) (and-then ! (load ! (from ! (stop !)) (look ! 46 refl)) (no-more !)))))))))) (λ w.
-        use1 W (later (some (λ (r : TableAnswer). ((‵ (flft κ q) ⊛ ‵ (flft (ν ∷ []) fullShare) ⊛ ‵ ftrue) ⊛ ‵ (E.the-row .own r (w ∷ []))) ⊛ raw (ensured 𝓤 H A laid-out.ended (laid-out.clauses 𝓤 H A at-mem run) (κ, (ν ∷ [], tt)) (game, (length ys, passed l₃ l₄ l₅ l₆ l₇ l₈ l₉ (y₁, (y₂, (y₃, (y₄, (y₅, (y₆, (y₇, tt))))))) (γ₁, (γ₂, (γ₃, (γ₄, (γ₅, (γ₆, (γ₇, tt))))))))) tt r)))) (id⊢ 𝓤 _) $ await ! tt $ pick ! (λ r.
-        split ! $ move ! (1 ∷ []) $ use1 W (some (λ (zs : Laid). ‵ (lasts laid-out.ended (κ, (ν ∷ [], tt)) (game, (length ys, passed l₃ l₄ l₅ l₆ l₇ l₈ l₉ (y₁, (y₂, (y₃, (y₄, (y₅, (y₆, (y₇, tt))))))) (γ₁, (γ₂, (γ₃, (γ₄, (γ₅, (γ₆, (γ₇, tt))))))))) zs) ⊛ raw (fact 𝓤 (IsLaid r zs)))) (id⊢ 𝓤 _) $ pick ! (λ zs. split ! $ move ! (1 ∷ []) $ heard ! (IsLaid r zs) (λ made.
-        fsplit ! $ drop ! $ fsplit ! $ drop ! $ fsplit ! $ fsplit ! $ move ! (1 ∷ []) $ drop ! $ move ! (1 ∷ []) $ fsplit ! $ fsplit ! $ move ! (1 ∷ []) $ drop ! $ move ! (1 ∷ []) $ fsplit ! $ fsplit ! $ move ! (1 ∷ []) $ drop ! $ move ! (1 ∷ []) $ fsplit ! $ fsplit ! $ move ! (1 ∷ []) $ drop ! $ move ! (1 ∷ []) $ fsplit ! $ fsplit ! $ move ! (1 ∷ []) $ drop ! $ move ! (1 ∷ []) $ fsplit ! $ fsplit ! $ move ! (1 ∷ []) $ drop ! $ move ! (1 ∷ []) $ fsplit ! $ fsplit ! $ move ! (1 ∷ []) $ drop ! $
-        move ! (8 ∷ []) $ split ! $ move ! (1 ∷ []) $ facts ! E.the-row (Is E.the-row) (shows 𝓤 H A E.the-row) r (w ∷ []) (λ is-r. land ! (from ! (stop !)) (init ! 84 refl (answer-typed r w is-r)) $
-        -- the arrays come back, and are lent for reading
-        split ! $ move ! (1 ∷ []) $ split ! $ lft-end ! tt $ use1 W (‵ (fdead (ν ∷ [])) ⊛ ‵ (fdead (ν ∷ []))) (W .lfts .dead-dup (ν ∷ [])) $ split ! $ use1 W (‵ (fdead (ν ∷ [])) ⊛ ‵ (fdead (ν ∷ []))) (W .lfts .dead-dup (ν ∷ [])) $ split ! $ use1 W (‵ (fdead (ν ∷ [])) ⊛ ‵ (fdead (ν ∷ []))) (W .lfts .dead-dup (ν ∷ [])) $ split ! $ use1 W (‵ (fdead (ν ∷ [])) ⊛ ‵ (fdead (ν ∷ []))) (W .lfts .dead-dup (ν ∷ [])) $ split ! $ use1 W (‵ (fdead (ν ∷ [])) ⊛ ‵ (fdead (ν ∷ []))) (W .lfts .dead-dup (ν ∷ [])) $ split ! $ use1 W (‵ (fdead (ν ∷ [])) ⊛ ‵ (fdead (ν ∷ []))) (W .lfts .dead-dup (ν ∷ [])) $ split ! $
-        lft-new ! tt (λ ν′.
-        move ! (7 ∷ 28 ∷ 17 ∷ []) $ use3 W (later (some (λ (δ : GName). ‵ (Shared ν′ usize countLimit l₃ δ (zs .1 .1 .0)) ⊛ ‵ (flent (ν′ ∷ []) (arr-parts (shares usize) countLimit .part fullShare (zs .1 .1 .0) l₃ 0))))) (shares-back 𝓤 H A W usize countLimit l₃ (ν ∷ []) γ₁ (named 1) (ν′ ∷ []) (zs .1 .1 .0) room-leaves) $ await ! tt $ pick ! (λ δ₁. split ! $
-        move ! (8 ∷ 27 ∷ 17 ∷ []) $ use3 W (later (some (λ (δ : GName). ‵ (Shared ν′ usize countLimit l₄ δ (zs .1 .1 .1 .0)) ⊛ ‵ (flent (ν′ ∷ []) (arr-parts (shares usize) countLimit .part fullShare (zs .1 .1 .1 .0) l₄ 0))))) (shares-back 𝓤 H A W usize countLimit l₄ (ν ∷ []) γ₂ (named 1) (ν′ ∷ []) (zs .1 .1 .1 .0) room-leaves) $ await ! tt $ pick ! (λ δ₂. split ! $
-        move ! (9 ∷ 26 ∷ 17 ∷ []) $ use3 W (later (some (λ (δ : GName). ‵ (Shared ν′ u64 countLimit l₅ δ (zs .1 .1 .1 .1 .0)) ⊛ ‵ (flent (ν′ ∷ []) (arr-parts (shares u64) countLimit .part fullShare (zs .1 .1 .1 .1 .0) l₅ 0))))) (shares-back 𝓤 H A W u64 countLimit l₅ (ν ∷ []) γ₃ (named 1) (ν′ ∷ []) (zs .1 .1 .1 .1 .0) room-leaves) $ await ! tt $ pick ! (λ δ₃. split ! $
-        move ! (10 ∷ 25 ∷ 17 ∷ []) $ use3 W (later (some (λ (δ : GName). ‵ (Shared ν′ i16 countLimit l₆ δ (zs .1 .1 .1 .1 .1 .0)) ⊛ ‵ (flent (ν′ ∷ []) (arr-parts (shares i16) countLimit .part fullShare (zs .1 .1 .1 .1 .1 .0) l₆ 0))))) (shares-back 𝓤 H A W i16 countLimit l₆ (ν ∷ []) γ₄ (named 1) (ν′ ∷ []) (zs .1 .1 .1 .1 .1 .0) room-payoffs) $ await ! tt $ pick ! (λ δ₄. split ! $
-        move ! (11 ∷ 24 ∷ 17 ∷ []) $ use3 W (later (some (λ (δ : GName). ‵ (Shared ν′ i16 countLimit l₇ δ (zs .1 .1 .1 .1 .1 .1 .0)) ⊛ ‵ (flent (ν′ ∷ []) (arr-parts (shares i16) countLimit .part fullShare (zs .1 .1 .1 .1 .1 .1 .0) l₇ 0))))) (shares-back 𝓤 H A W i16 countLimit l₇ (ν ∷ []) γ₅ (named 1) (ν′ ∷ []) (zs .1 .1 .1 .1 .1 .1 .0) room-payoffs) $ await ! tt $ pick ! (λ δ₅. split ! $
-        move ! (12 ∷ 23 ∷ 17 ∷ []) $ use3 W (later (some (λ (δ : GName). ‵ (Shared ν′ usize countLimit l₈ δ (zs .1 .1 .1 .1 .1 .1 .1 .0)) ⊛ ‵ (flent (ν′ ∷ []) (arr-parts (shares usize) countLimit .part fullShare (zs .1 .1 .1 .1 .1 .1 .1 .0) l₈ 0))))) (shares-back 𝓤 H A W usize countLimit l₈ (ν ∷ []) γ₆ (named 1) (ν′ ∷ []) (zs .1 .1 .1 .1 .1 .1 .1 .0) room-leaves) $ await ! tt $ pick ! (λ δ₆. split ! $
-        move ! (13 ∷ 22 ∷ 16 ∷ []) $ use3 W (later (some (λ (δ : GName). ‵ (Shared ν′ usize (2 ^ 12) l₉ δ (zs .1 .1 .1 .1 .1 .1 .1 .1 .0)) ⊛ ‵ (flent (ν′ ∷ []) (arr-parts (shares usize) (2 ^ 12) .part fullShare (zs .1 .1 .1 .1 .1 .1 .1 .1 .0) l₉ 0))))) (shares-back 𝓤 H A W usize (2 ^ 12) l₉ (ν ∷ []) γ₇ (named 1) (ν′ ∷ []) (zs .1 .1 .1 .1 .1 .1 .1 .1 .0) room-bounds) $ await ! tt $ pick ! (λ δ₇. split ! $
-        -- the slice of the rows that `fill_rows` is lent, and how many it fills
-        assigns ! (addr ! (from ! (fld ! refl (hop ! (look-in ! 95 (sub ! 0 refl (whole !))) (stop !))))) (from ! (stop !)) (init ! 52 refl (tt, tt)) $
-        assigns ! (agg ! (and-then ! (load ! (from ! (stop !)) (look ! 52 refl)) (and-then ! (load ! (from ! (fld ! refl (stop !))) (look-in ! 95 (sub ! 1 refl (whole !)))) (no-more !)))) (from ! (stop !)) (init ! 50 refl (tt, (tt, (record { fits = room .0 }, tt)))) $
-        use0 W (raw (RowsGiven 𝓤 H A at-mem run .pre (to-given r w))) (goes-given r w is-r) $ calls-at ! fm (RowsGiven 𝓤 H A at-mem run) known-given (to-given r w) (and-then ! (load ! (from ! (stop !)) (look ! 87 refl)) (no-more !)) (λ u.
-        use1 W (later (some (λ (n : ℕ). (‵ ftrue ⊛ ‵ (usize .own n (u ∷ []))) ⊛ raw (ensured 𝓤 H A rows-given.ended (rows-given.clauses 𝓤 H A at-mem run) tt (r, tt) tt n)))) (id⊢ 𝓤 _) $ await ! tt $ pick ! (λ n.
-        split ! $ move ! (1 ∷ []) $ use1 W (raw (fact 𝓤 (n ≡ rowsGiven r))) (said-given r n) $ heard ! (n ≡ rowsGiven r) (λ e-n. split ! $ drop ! $ facts ! usize (Is usize) (shows 𝓤 H A usize) n (u ∷ []) (λ is-n. land ! (from ! (stop !)) (store ! 84 refl (uint-lawful 𝓤 H A W w64 .typed n _ is-n .0)) $
-        -- the slices that it reads
-        assigns ! (addr ! (from ! (stop !))) (from ! (stop !)) (init ! 48 refl (tt, tt)) $ assigns ! (agg ! (and-then ! (load ! (from ! (stop !)) (look ! 48 refl)) (and-then ! (big-lit ! (record { fits = lit< tt })) (no-more !)))) (from ! (stop !)) (init ! 46 refl (tt, (tt, (record { fits = lit< tt }, tt)))) $
-        assigns ! (addr ! (from ! (stop !))) (from ! (stop !)) (init ! 44 refl (tt, tt)) $ assigns ! (agg ! (and-then ! (load ! (from ! (stop !)) (look ! 44 refl)) (and-then ! (big-lit ! (record { fits = lit< tt })) (no-more !)))) (from ! (stop !)) (init ! 42 refl (tt, (tt, (record { fits = lit< tt }, tt)))) $
+        assigns ! (of-opd ! (load ! (from ! (fld ! refl (stop !))) (look-in ! 50 (sub ! 1 refl (whole !))))) (from ! (stop !)) (init ! 42 refl (tt, record { fits = room .0 })) $
         assigns ! (addr ! (from ! (stop !))) (from ! (stop !)) (init ! 40 refl (tt, tt)) $ assigns ! (agg ! (and-then ! (load ! (from ! (stop !)) (look ! 40 refl)) (and-then ! (big-lit ! (record { fits = lit< tt })) (no-more !)))) (from ! (stop !)) (init ! 38 refl (tt, (tt, (record { fits = lit< tt }, tt)))) $
         assigns ! (addr ! (from ! (stop !))) (from ! (stop !)) (init ! 36 refl (tt, tt)) $ assigns ! (agg ! (and-then ! (load ! (from ! (stop !)) (look ! 36 refl)) (and-then ! (big-lit ! (record { fits = lit< tt })) (no-more !)))) (from ! (stop !)) (init ! 34 refl (tt, (tt, (record { fits = lit< tt }, tt)))) $
         assigns ! (addr ! (from ! (stop !))) (from ! (stop !)) (init ! 32 refl (tt, tt)) $ assigns ! (agg ! (and-then ! (load ! (from ! (stop !)) (look ! 32 refl)) (and-then ! (big-lit ! (record { fits = lit< tt })) (no-more !)))) (from ! (stop !)) (init ! 30 refl (tt, (tt, (record { fits = lit< tt }, tt)))) $
         assigns ! (addr ! (from ! (stop !))) (from ! (stop !)) (init ! 28 refl (tt, tt)) $ assigns ! (agg ! (and-then ! (load ! (from ! (stop !)) (look ! 28 refl)) (and-then ! (big-lit ! (record { fits = lit< tt })) (no-more !)))) (from ! (stop !)) (init ! 26 refl (tt, (tt, (record { fits = lit< tt }, tt)))) $
-        assigns ! (addr ! (from ! (stop !))) (from ! (stop !)) (init ! 24 refl (tt, tt)) $ assigns ! (agg ! (and-then ! (load ! (from ! (stop !)) (look ! 24 refl)) (and-then ! (big-lit ! (record { fits = lit< tt })) (no-more !)))) (from ! (stop !)) (init ! 22 refl (tt, (tt, (record { fits = lit< tt }, tt)))) $
+        lft-new ! tt (λ ν.
+        move ! (4 ∷ []) $ use1 W (later (some (λ (δ : GName). ‵ (Column ν u16 numbersRoom l₃ δ y₁) ⊛ ‵ (flent (ν ∷ []) (Held u16 numbersRoom l₃ 0 δ))))) (lends 𝓤 H A W u16 numbersRoom l₃ (named 1) (ν ∷ []) y₁ e₁ room-numbers) $ await ! tt $ pick ! (λ γ₁. split ! $
+        move ! (5 ∷ []) $ use1 W (later (some (λ (δ : GName). ‵ (Column ν i16 payoffsRoom l₄ δ y₂) ⊛ ‵ (flent (ν ∷ []) (Held i16 payoffsRoom l₄ 0 δ))))) (lends 𝓤 H A W i16 payoffsRoom l₄ (named 1) (ν ∷ []) y₂ e₂ room-payoffs) $ await ! tt $ pick ! (λ γ₂. split ! $
+        move ! (6 ∷ []) $ use1 W (later (some (λ (δ : GName). ‵ (Column ν u16 (2 ^ 12) l₅ δ y₃) ⊛ ‵ (flent (ν ∷ []) (Held u16 (2 ^ 12) l₅ 0 δ))))) (lends 𝓤 H A W u16 (2 ^ 12) l₅ (named 1) (ν ∷ []) y₃ e₃ room-order) $ await ! tt $ pick ! (λ γ₃. split ! $
+        move ! (7 ∷ []) $ use1 W (later (some (λ (δ : GName). ‵ (Column ν u16 (2 ^ 12) l₆ δ y₄) ⊛ ‵ (flent (ν ∷ []) (Held u16 (2 ^ 12) l₆ 0 δ))))) (lends 𝓤 H A W u16 (2 ^ 12) l₆ (named 1) (ν ∷ []) y₄ e₄ room-order) $ await ! tt $ pick ! (λ γ₄. split ! $
+        -- `laid_out`
+        move ! (61 ∷ []) $ split ! $ move ! (63 ∷ []) $ fsplit ! $ use1 W (‵ Game ⊛ ‵ Game) (shr-slice-copy 𝓤 H A W (named 0) κ u8 .twice game (vg ∷ [])) $ split ! $ move ! (2 ∷ []) $ fsplit ! $
+        move ! (4 ∷ 14 ∷ 3 ∷ 12 ∷ 10 ∷ 8 ∷ 6 ∷ []) $ group ! 7 $ use1 W (raw (LaidOut 𝓤 H A at-mem run .pre (to-laid l₃ l₄ l₅ l₆ ν (y₁, (y₂, (y₃, (y₄, tt)))) (γ₁, (γ₂, (γ₃, (γ₄, tt))))))) (goes-laid l₃ l₄ l₅ l₆ ν (y₁, (y₂, (y₃, (y₄, tt)))) (γ₁, (γ₂, (γ₃, (γ₄, tt)))) (long y₁ y₂ y₃ y₄ e₁ e₂ e₃ e₄) room) $
+        calls-at ! fm (LaidOut 𝓤 H A at-mem run) known-laid (to-laid l₃ l₄ l₅ l₆ ν (y₁, (y₂, (y₃, (y₄, tt)))) (γ₁, (γ₂, (γ₃, (γ₄, tt))))) (and-then ! (load ! (from ! (stop !)) (look ! 57 refl)) (and-then ! (load ! (from ! (stop !)) (look ! 47 refl)) (and-then ! (load ! (from ! (stop !)) (look ! 43 refl)) (and-then ! (load ! (from ! (stop !)) (look ! 39 refl)) (and-then ! (load ! (from ! (stop !)) (look ! 35 refl)) (and-then ! (load ! (from ! (stop !)) (look ! 31 refl)) (no-more !))))))) (λ w.
+        use1 W (later (some (λ (r : TableAnswer). ((‵ (flft κ q) ⊛ ‵ (flft (ν ∷ []) fullShare) ⊛ ‵ ftrue) ⊛ ‵ (E.the-row .own r (w ∷ []))) ⊛ raw (ensured 𝓤 H A laid-out.ended (laid-out.clauses 𝓤 H A at-mem run) (κ, (ν ∷ [], tt)) (game, (length ys, passed l₃ l₄ l₅ l₆ (y₁, (y₂, (y₃, (y₄, tt)))) (γ₁, (γ₂, (γ₃, (γ₄, tt)))))) tt r)))) (id⊢ 𝓤 _) $ await ! tt $ pick ! (λ r.
+        split ! $ move ! (1 ∷ []) $ use1 W (some (λ (zs : Laid). ‵ (lasts laid-out.ended (κ, (ν ∷ [], tt)) (game, (length ys, passed l₃ l₄ l₅ l₆ (y₁, (y₂, (y₃, (y₄, tt)))) (γ₁, (γ₂, (γ₃, (γ₄, tt)))))) zs) ⊛ raw (fact 𝓤 (IsLaid r zs)))) (id⊢ 𝓤 _) $ pick ! (λ zs. split ! $ move ! (1 ∷ []) $ heard ! (IsLaid r zs) (λ made.
+        fsplit ! $ drop ! $ fsplit ! $ drop ! $ fsplit ! $ fsplit ! $ move ! (1 ∷ []) $ drop ! $ move ! (1 ∷ []) $ fsplit ! $ fsplit ! $ move ! (1 ∷ []) $ drop ! $ move ! (1 ∷ []) $ fsplit ! $ fsplit ! $ move ! (1 ∷ []) $ drop ! $ move ! (1 ∷ []) $ fsplit ! $ fsplit ! $ move ! (1 ∷ []) $ drop ! $
+        move ! (5 ∷ []) $ split ! $ move ! (1 ∷ []) $ facts ! E.the-row (Is E.the-row) (shows 𝓤 H A E.the-row) r (w ∷ []) (λ is-r. land ! (from ! (stop !)) (init ! 54 refl (answer-typed r w is-r)) $
+        -- the arrays come back, and are lent for reading
+        split ! $ move ! (1 ∷ []) $ split ! $ lft-end ! tt $ use1 W (‵ (fdead (ν ∷ [])) ⊛ ‵ (fdead (ν ∷ []))) (W .lfts .dead-dup (ν ∷ [])) $ split ! $ use1 W (‵ (fdead (ν ∷ [])) ⊛ ‵ (fdead (ν ∷ []))) (W .lfts .dead-dup (ν ∷ [])) $ split ! $ use1 W (‵ (fdead (ν ∷ [])) ⊛ ‵ (fdead (ν ∷ []))) (W .lfts .dead-dup (ν ∷ [])) $ split ! $
+        lft-new ! tt (λ ν′.
+        move ! (4 ∷ 19 ∷ 11 ∷ []) $ use3 W (later (some (λ (δ : GName). ‵ (Shared ν′ u16 numbersRoom l₃ δ (zs .1 .1 .0)) ⊛ ‵ (flent (ν′ ∷ []) (arr-parts (shares u16) numbersRoom .part fullShare (zs .1 .1 .0) l₃ 0))))) (shares-back 𝓤 H A W u16 numbersRoom l₃ (ν ∷ []) γ₁ (named 1) (ν′ ∷ []) (zs .1 .1 .0) room-numbers) $ await ! tt $ pick ! (λ δ₁. split ! $
+        move ! (5 ∷ 18 ∷ 11 ∷ []) $ use3 W (later (some (λ (δ : GName). ‵ (Shared ν′ i16 payoffsRoom l₄ δ (zs .1 .1 .1 .0)) ⊛ ‵ (flent (ν′ ∷ []) (arr-parts (shares i16) payoffsRoom .part fullShare (zs .1 .1 .1 .0) l₄ 0))))) (shares-back 𝓤 H A W i16 payoffsRoom l₄ (ν ∷ []) γ₂ (named 1) (ν′ ∷ []) (zs .1 .1 .1 .0) room-payoffs) $ await ! tt $ pick ! (λ δ₂. split ! $
+        move ! (6 ∷ 17 ∷ 11 ∷ []) $ use3 W (later (some (λ (δ : GName). ‵ (Shared ν′ u16 (2 ^ 12) l₅ δ (zs .1 .1 .1 .1 .0)) ⊛ ‵ (flent (ν′ ∷ []) (arr-parts (shares u16) (2 ^ 12) .part fullShare (zs .1 .1 .1 .1 .0) l₅ 0))))) (shares-back 𝓤 H A W u16 (2 ^ 12) l₅ (ν ∷ []) γ₃ (named 1) (ν′ ∷ []) (zs .1 .1 .1 .1 .0) room-order) $ await ! tt $ pick ! (λ δ₃. split ! $
+        move ! (7 ∷ 16 ∷ 10 ∷ []) $ use3 W (later (some (λ (δ : GName). ‵ (Shared ν′ u16 (2 ^ 12) l₆ δ (zs .1 .1 .1 .1 .1 .0)) ⊛ ‵ (flent (ν′ ∷ []) (arr-parts (shares u16) (2 ^ 12) .part fullShare (zs .1 .1 .1 .1 .1 .0) l₆ 0))))) (shares-back 𝓤 H A W u16 (2 ^ 12) l₆ (ν ∷ []) γ₄ (named 1) (ν′ ∷ []) (zs .1 .1 .1 .1 .1 .0) room-order) $ await ! tt $ pick ! (λ δ₄. split ! $
+        -- the slice of the rows that `fill_rows` is lent, and how many it fills
+        assigns ! (addr ! (from ! (fld ! refl (hop ! (look-in ! 62 (sub ! 0 refl (whole !))) (stop !))))) (from ! (stop !)) (init ! 34 refl (tt, tt)) $
+        assigns ! (agg ! (and-then ! (load ! (from ! (stop !)) (look ! 34 refl)) (and-then ! (load ! (from ! (fld ! refl (stop !))) (look-in ! 62 (sub ! 1 refl (whole !)))) (no-more !)))) (from ! (stop !)) (init ! 32 refl (tt, (tt, (record { fits = room .0 }, tt)))) $
+        use0 W (raw (RowsGiven 𝓤 H A at-mem run .pre (to-given r w))) (goes-given r w is-r) $ calls-at ! fm (RowsGiven 𝓤 H A at-mem run) known-given (to-given r w) (and-then ! (load ! (from ! (stop !)) (look ! 57 refl)) (no-more !)) (λ u.
+        use1 W (later (some (λ (n : ℕ). (‵ ftrue ⊛ ‵ (usize .own n (u ∷ []))) ⊛ raw (ensured 𝓤 H A rows-given.ended (rows-given.clauses 𝓤 H A at-mem run) tt (r, tt) tt n)))) (id⊢ 𝓤 _) $ await ! tt $ pick ! (λ n.
+        split ! $ move ! (1 ∷ []) $ use1 W (raw (fact 𝓤 (n ≡ rowsGiven r))) (said-given r n) $ heard ! (n ≡ rowsGiven r) (λ e-n. split ! $ drop ! $ facts ! usize (Is usize) (shows 𝓤 H A usize) n (u ∷ []) (λ is-n. land ! (from ! (stop !)) (store ! 54 refl (uint-lawful 𝓤 H A W w64 .typed n _ is-n .0)) $
+        -- the slices that it reads
+        assigns ! (addr ! (from ! (stop !))) (from ! (stop !)) (init ! 30 refl (tt, tt)) $ assigns ! (agg ! (and-then ! (load ! (from ! (stop !)) (look ! 30 refl)) (and-then ! (big-lit ! (record { fits = lit< tt })) (no-more !)))) (from ! (stop !)) (init ! 28 refl (tt, (tt, (record { fits = lit< tt }, tt)))) $
+        assigns ! (addr ! (from ! (stop !))) (from ! (stop !)) (init ! 26 refl (tt, tt)) $ assigns ! (agg ! (and-then ! (load ! (from ! (stop !)) (look ! 26 refl)) (and-then ! (big-lit ! (record { fits = lit< tt })) (no-more !)))) (from ! (stop !)) (init ! 24 refl (tt, (tt, (record { fits = lit< tt }, tt)))) $
+        assigns ! (addr ! (from ! (stop !))) (from ! (stop !)) (init ! 22 refl (tt, tt)) $ assigns ! (agg ! (and-then ! (load ! (from ! (stop !)) (look ! 22 refl)) (and-then ! (big-lit ! (record { fits = lit< tt })) (no-more !)))) (from ! (stop !)) (init ! 20 refl (tt, (tt, (record { fits = lit< tt }, tt)))) $
+        assigns ! (addr ! (from ! (stop !))) (from ! (stop !)) (init ! 18 refl (tt, tt)) $ assigns ! (agg ! (and-then ! (load ! (from ! (stop !)) (look ! 18 refl)) (and-then ! (big-lit ! (record { fits = lit< tt })) (no-more !)))) (from ! (stop !)) (init ! 16 refl (tt, (tt, (record { fits = lit< tt }, tt)))) $
         -- `fill_rows`
-        move ! (21 ∷ []) $ split ! $ move ! (0 ∷ 16 ∷ 20 ∷ 14 ∷ 12 ∷ 10 ∷ 8 ∷ 6 ∷ 4 ∷ 2 ∷ []) $ group ! 10 $ use1 W (raw (FillRows 𝓤 H A at-mem run .pre (to-fill l₃ l₄ l₅ l₆ l₇ l₈ l₉ ν′ n u (zs .1 .1) (δ₁, (δ₂, (δ₃, (δ₄, (δ₅, (δ₆, (δ₇, tt)))))))))) (goes-fill l₃ l₄ l₅ l₆ l₇ l₈ l₉ ν′ n u (zs .1 .1) (δ₁, (δ₂, (δ₃, (δ₄, (δ₅, (δ₆, (δ₇, tt))))))) is-n (filled (now game) ys r (leavesOf (zs .1 .1)) e-n made)) $
-        calls-at ! fm (FillRows 𝓤 H A at-mem run) known-fill (to-fill l₃ l₄ l₅ l₆ l₇ l₈ l₉ ν′ n u (zs .1 .1) (δ₁, (δ₂, (δ₃, (δ₄, (δ₅, (δ₆, (δ₇, tt)))))))) (and-then ! (load ! (from ! (stop !)) (look ! 42 refl)) (and-then ! (load ! (from ! (stop !)) (look ! 76 refl)) (and-then ! (load ! (from ! (stop !)) (look ! 38 refl)) (and-then ! (load ! (from ! (stop !)) (look ! 34 refl)) (and-then ! (load ! (from ! (stop !)) (look ! 30 refl)) (and-then ! (load ! (from ! (stop !)) (look ! 26 refl)) (and-then ! (load ! (from ! (stop !)) (look ! 22 refl)) (and-then ! (load ! (from ! (stop !)) (look ! 18 refl)) (and-then ! (load ! (from ! (stop !)) (look ! 14 refl)) (no-more !)))))))))) (λ t.
-        use1 W (later (some (λ (d : Unit {0}). ((‵ (flft κ′ q′) ⊛ ‵ (flft (ν′ ∷ []) fullShare) ⊛ ‵ ftrue) ⊛ ‵ (unit .own d (t ∷ []))) ⊛ raw (ensured 𝓤 H A fill-rows.ended (fill-rows.clauses 𝓤 H A at-mem run) (κ′, (ν′ ∷ [], tt)) (x ys, (n, passed l₃ l₄ l₅ l₆ l₇ l₈ l₉ (zs .1 .1) (δ₁, (δ₂, (δ₃, (δ₄, (δ₅, (δ₆, (δ₇, tt))))))))) tt d)))) (id⊢ 𝓤 _) $ await ! tt $ pick ! (λ d.
-        split ! $ move ! (1 ∷ []) $ use1 W (some (λ (xs : Rowed). ‵ (lasts fill-rows.ended (κ′, (ν′ ∷ [], tt)) (x ys, (n, passed l₃ l₄ l₅ l₆ l₇ l₈ l₉ (zs .1 .1) (δ₁, (δ₂, (δ₃, (δ₄, (δ₅, (δ₆, (δ₇, tt))))))))) xs) ⊛ raw (fact 𝓤 (IsFilled n (zs .1 .1) xs)))) (id⊢ 𝓤 _) $ pick ! (λ xs. split ! $ move ! (1 ∷ []) $ heard ! (IsFilled n (zs .1 .1) xs) (λ e-x.
-        fsplit ! $ fsplit ! $ move ! (1 ∷ []) $ feqL ! (λ e-l. move ! (2 ∷ []) $ split ! $ move ! (1 ∷ []) $ facts ! unit (Is unit) (shows 𝓤 H A unit) d (t ∷ []) (λ is-d. land ! (from ! (stop !)) (init ! 48 refl (nothing-lawful 𝓤 H A W .typed d _ is-d .0)) $
+        move ! (15 ∷ []) $ split ! $ move ! (0 ∷ 10 ∷ 14 ∷ 8 ∷ 6 ∷ 4 ∷ 2 ∷ []) $ group ! 7 $ use1 W (raw (FillRows 𝓤 H A at-mem run .pre (to-fill l₃ l₄ l₅ l₆ ν′ n u (zs .1 .1) (δ₁, (δ₂, (δ₃, (δ₄, tt))))))) (goes-fill l₃ l₄ l₅ l₆ ν′ n u (zs .1 .1) (δ₁, (δ₂, (δ₃, (δ₄, tt)))) is-n (rows-ready (now game) (length ys) made e-n)) $
+        calls-at ! fm (FillRows 𝓤 H A at-mem run) known-fill (to-fill l₃ l₄ l₅ l₆ ν′ n u (zs .1 .1) (δ₁, (δ₂, (δ₃, (δ₄, tt))))) (and-then ! (load ! (from ! (stop !)) (look ! 27 refl)) (and-then ! (load ! (from ! (stop !)) (look ! 49 refl)) (and-then ! (load ! (from ! (stop !)) (look ! 23 refl)) (and-then ! (load ! (from ! (stop !)) (look ! 19 refl)) (and-then ! (load ! (from ! (stop !)) (look ! 15 refl)) (and-then ! (load ! (from ! (stop !)) (look ! 11 refl)) (no-more !))))))) (λ t.
+        use1 W (later (some (λ (d : Unit {0}). ((‵ (flft κ′ q′) ⊛ ‵ (flft (ν′ ∷ []) fullShare) ⊛ ‵ ftrue) ⊛ ‵ (unit .own d (t ∷ []))) ⊛ raw (ensured 𝓤 H A fill-rows.ended (fill-rows.clauses 𝓤 H A at-mem run) (κ′, (ν′ ∷ [], tt)) (x ys, (n, passed l₃ l₄ l₅ l₆ (zs .1 .1) (δ₁, (δ₂, (δ₃, (δ₄, tt)))))) tt d)))) (id⊢ 𝓤 _) $ await ! tt $ pick ! (λ d.
+        split ! $ move ! (1 ∷ []) $ use1 W (some (λ (xs : Rowed). ‵ (lasts fill-rows.ended (κ′, (ν′ ∷ [], tt)) (x ys, (n, passed l₃ l₄ l₅ l₆ (zs .1 .1) (δ₁, (δ₂, (δ₃, (δ₄, tt)))))) xs) ⊛ raw (fact 𝓤 (IsFilled n (zs .1 .1) xs)))) (id⊢ 𝓤 _) $ pick ! (λ xs. split ! $ move ! (1 ∷ []) $ heard ! (IsFilled n (zs .1 .1) xs) (λ e-x.
+        fsplit ! $ fsplit ! $ move ! (1 ∷ []) $ feqL ! (λ e-l. move ! (2 ∷ []) $ split ! $ move ! (1 ∷ []) $ facts ! unit (Is unit) (shows 𝓤 H A unit) d (t ∷ []) (λ is-d. land ! (from ! (stop !)) (init ! 33 refl (nothing-lawful 𝓤 H A W .typed d _ is-d .0)) $
         -- the arrays are room again
-        split ! $ move ! (1 ∷ []) $ split ! $ lft-end ! tt $ use1 W (‵ (fdead (ν′ ∷ [])) ⊛ ‵ (fdead (ν′ ∷ []))) (W .lfts .dead-dup (ν′ ∷ [])) $ split ! $ use1 W (‵ (fdead (ν′ ∷ [])) ⊛ ‵ (fdead (ν′ ∷ []))) (W .lfts .dead-dup (ν′ ∷ [])) $ split ! $ use1 W (‵ (fdead (ν′ ∷ [])) ⊛ ‵ (fdead (ν′ ∷ []))) (W .lfts .dead-dup (ν′ ∷ [])) $ split ! $ use1 W (‵ (fdead (ν′ ∷ [])) ⊛ ‵ (fdead (ν′ ∷ []))) (W .lfts .dead-dup (ν′ ∷ [])) $ split ! $ use1 W (‵ (fdead (ν′ ∷ [])) ⊛ ‵ (fdead (ν′ ∷ []))) (W .lfts .dead-dup (ν′ ∷ [])) $ split ! $ use1 W (‵ (fdead (ν′ ∷ [])) ⊛ ‵ (fdead (ν′ ∷ []))) (W .lfts .dead-dup (ν′ ∷ [])) $ split ! $
-        move ! (6 ∷ 18 ∷ []) $ use2 W (later (‵ (froom (tyArray (tyInt w64) countLimit) l₃ 0))) (room-back 𝓤 H A W usize countLimit l₃ (ν′ ∷ []) (zs .1 .1 .0)) $ await ! tt $
-        move ! (6 ∷ 17 ∷ []) $ use2 W (later (‵ (froom (tyArray (tyInt w64) countLimit) l₄ 0))) (room-back 𝓤 H A W usize countLimit l₄ (ν′ ∷ []) (zs .1 .1 .1 .0)) $ await ! tt $
-        move ! (6 ∷ 16 ∷ []) $ use2 W (later (‵ (froom (tyArray (tyInt w64) countLimit) l₅ 0))) (room-back 𝓤 H A W u64 countLimit l₅ (ν′ ∷ []) (zs .1 .1 .1 .1 .0)) $ await ! tt $
-        move ! (6 ∷ 15 ∷ []) $ use2 W (later (‵ (froom (tyArray (tyInt w16) countLimit) l₆ 0))) (room-back 𝓤 H A W i16 countLimit l₆ (ν′ ∷ []) (zs .1 .1 .1 .1 .1 .0)) $ await ! tt $
-        move ! (6 ∷ 14 ∷ []) $ use2 W (later (‵ (froom (tyArray (tyInt w16) countLimit) l₇ 0))) (room-back 𝓤 H A W i16 countLimit l₇ (ν′ ∷ []) (zs .1 .1 .1 .1 .1 .1 .0)) $ await ! tt $
-        move ! (6 ∷ 13 ∷ []) $ use2 W (later (‵ (froom (tyArray (tyInt w64) countLimit) l₈ 0))) (room-back 𝓤 H A W usize countLimit l₈ (ν′ ∷ []) (zs .1 .1 .1 .1 .1 .1 .1 .0)) $ await ! tt $
-        move ! (6 ∷ 12 ∷ []) $ use2 W (later (‵ (froom (tyArray (tyInt w64) (2 ^ 12)) l₉ 0))) (room-back 𝓤 H A W usize (2 ^ 12) l₉ (ν′ ∷ []) (zs .1 .1 .1 .1 .1 .1 .1 .1 .0)) $ await ! tt $
-        assigns ! (of-opd ! (load ! (from ! (stop !)) (look ! 81 refl))) (from ! (stop !)) (init ! 94 refl (answer-typed r w is-r)) $
-        returns ! (look ! 94 refl) $ forget ! 17 refl $ forget ! 19 refl $ forget ! 21 refl $ forget ! 23 refl $ forget ! 25 refl $ forget ! 27 refl $ forget ! 29 refl $ forget ! 31 refl $ forget ! 33 refl $ forget ! 35 refl $ forget ! 37 refl $ forget ! 39 refl $ forget ! 41 refl $ forget ! 43 refl $ forget ! 45 refl $ forget ! 47 refl $ forget ! 49 refl $ forget ! 51 refl $ forget ! 53 refl $ forget ! 55 refl $ forget ! 57 refl $ forget ! 59 refl $ forget ! 61 refl $ forget ! 63 refl $ forget ! 65 refl $ forget ! 67 refl $ forget ! 69 refl $ forget ! 71 refl $ forget ! 73 refl $ forget ! 75 refl $ forget ! 77 refl $ forget ! 79 refl $ forget ! 81 refl $ forget ! 90 refl $ forget ! 92 refl $ forget ! 94 refl $ move ! (94 ∷ 95 ∷ []) $ free1 ! $ move ! (92 ∷ 93 ∷ []) $ free1 ! $ move ! (90 ∷ 91 ∷ []) $ free1 ! $ move ! (6 ∷ 89 ∷ []) $ free1 ! $ move ! (5 ∷ 87 ∷ []) $ free1 ! $ move ! (4 ∷ 85 ∷ []) $ free1 ! $ move ! (3 ∷ 83 ∷ []) $ free1 ! $ move ! (2 ∷ 81 ∷ []) $ free1 ! $ move ! (1 ∷ 79 ∷ []) $ free1 ! $ move ! (0 ∷ 77 ∷ []) $ free1 ! $ move ! (74 ∷ 75 ∷ []) $ free1 ! $ move ! (72 ∷ 73 ∷ []) $ free1 ! $ move ! (70 ∷ 71 ∷ []) $ free1 ! $ move ! (68 ∷ 69 ∷ []) $ free1 ! $ move ! (66 ∷ 67 ∷ []) $ free1 ! $ move ! (64 ∷ 65 ∷ []) $ free1 ! $ move ! (62 ∷ 63 ∷ []) $ free1 ! $ move ! (60 ∷ 61 ∷ []) $ free1 ! $ move ! (58 ∷ 59 ∷ []) $ free1 ! $ move ! (56 ∷ 57 ∷ []) $ free1 ! $ move ! (54 ∷ 55 ∷ []) $ free1 ! $ move ! (52 ∷ 53 ∷ []) $ free1 ! $ move ! (50 ∷ 51 ∷ []) $ free1 ! $ move ! (48 ∷ 49 ∷ []) $ free1 ! $ move ! (46 ∷ 47 ∷ []) $ free1 ! $ move ! (44 ∷ 45 ∷ []) $ free1 ! $ move ! (42 ∷ 43 ∷ []) $ free1 ! $ move ! (40 ∷ 41 ∷ []) $ free1 ! $ move ! (38 ∷ 39 ∷ []) $ free1 ! $ move ! (36 ∷ 37 ∷ []) $ free1 ! $ move ! (34 ∷ 35 ∷ []) $ free1 ! $ move ! (32 ∷ 33 ∷ []) $ free1 ! $ move ! (30 ∷ 31 ∷ []) $ free1 ! $ move ! (28 ∷ 29 ∷ []) $ free1 ! $ move ! (26 ∷ 27 ∷ []) $ free1 ! $ move ! (24 ∷ 25 ∷ []) $ free1 ! $ move ! (22 ∷ 23 ∷ []) $ free1 ! $ move ! (20 ∷ 21 ∷ []) $ free1 ! $ move ! (18 ∷ 19 ∷ []) $ free1 ! $ move ! (16 ∷ 17 ∷ []) $ free1 ! $ move ! (14 ∷ 15 ∷ []) $ free1 ! $ move ! (12 ∷ 13 ∷ []) $ free1 ! $ move ! (10 ∷ 11 ∷ []) $ free1 ! $ free0 ! $
-        keep ! (6 ∷ 1 ∷ 9 ∷ 2 ∷ []) $ by ! (exits r w (xs .0) is-r (filled (now game) ys r (leavesOf (zs .1 .1)) e-n made .are e-x) e-l)))))))))))))))))))))))))))))))))))))))))))))))))))))))))))))))))))))))))))))))))))))))))
+        split ! $ move ! (1 ∷ []) $ split ! $ lft-end ! tt $ use1 W (‵ (fdead (ν′ ∷ [])) ⊛ ‵ (fdead (ν′ ∷ []))) (W .lfts .dead-dup (ν′ ∷ [])) $ split ! $ use1 W (‵ (fdead (ν′ ∷ [])) ⊛ ‵ (fdead (ν′ ∷ []))) (W .lfts .dead-dup (ν′ ∷ [])) $ split ! $ use1 W (‵ (fdead (ν′ ∷ [])) ⊛ ‵ (fdead (ν′ ∷ []))) (W .lfts .dead-dup (ν′ ∷ [])) $ split ! $
+        move ! (3 ∷ 12 ∷ []) $ use2 W (later (‵ (froom (tyArray (tyInt w16) numbersRoom) l₃ 0))) (room-back 𝓤 H A W u16 numbersRoom l₃ (ν′ ∷ []) (zs .1 .1 .0)) $ await ! tt $
+        move ! (3 ∷ 11 ∷ []) $ use2 W (later (‵ (froom (tyArray (tyInt w16) payoffsRoom) l₄ 0))) (room-back 𝓤 H A W i16 payoffsRoom l₄ (ν′ ∷ []) (zs .1 .1 .1 .0)) $ await ! tt $
+        move ! (3 ∷ 10 ∷ []) $ use2 W (later (‵ (froom (tyArray (tyInt w16) (2 ^ 12)) l₅ 0))) (room-back 𝓤 H A W u16 (2 ^ 12) l₅ (ν′ ∷ []) (zs .1 .1 .1 .1 .0)) $ await ! tt $
+        move ! (3 ∷ 9 ∷ []) $ use2 W (later (‵ (froom (tyArray (tyInt w16) (2 ^ 12)) l₆ 0))) (room-back 𝓤 H A W u16 (2 ^ 12) l₆ (ν′ ∷ []) (zs .1 .1 .1 .1 .1 .0)) $ await ! tt $
+        assigns ! (of-opd ! (load ! (from ! (stop !)) (look ! 54 refl))) (from ! (stop !)) (init ! 64 refl (answer-typed r w is-r)) $
+        returns ! (look ! 64 refl) $ forget ! 14 refl $ forget ! 16 refl $ forget ! 18 refl $ forget ! 20 refl $ forget ! 22 refl $ forget ! 24 refl $ forget ! 26 refl $ forget ! 28 refl $ forget ! 30 refl $ forget ! 32 refl $ forget ! 34 refl $ forget ! 36 refl $ forget ! 38 refl $ forget ! 40 refl $ forget ! 42 refl $ forget ! 44 refl $ forget ! 46 refl $ forget ! 48 refl $ forget ! 50 refl $ forget ! 52 refl $ forget ! 54 refl $ forget ! 60 refl $ forget ! 62 refl $ forget ! 64 refl $ move ! (64 ∷ 65 ∷ []) $ free1 ! $ move ! (62 ∷ 63 ∷ []) $ free1 ! $ move ! (60 ∷ 61 ∷ []) $ free1 ! $ move ! (3 ∷ 59 ∷ []) $ free1 ! $ move ! (2 ∷ 57 ∷ []) $ free1 ! $ move ! (1 ∷ 55 ∷ []) $ free1 ! $ move ! (0 ∷ 53 ∷ []) $ free1 ! $ move ! (50 ∷ 51 ∷ []) $ free1 ! $ move ! (48 ∷ 49 ∷ []) $ free1 ! $ move ! (46 ∷ 47 ∷ []) $ free1 ! $ move ! (44 ∷ 45 ∷ []) $ free1 ! $ move ! (42 ∷ 43 ∷ []) $ free1 ! $ move ! (40 ∷ 41 ∷ []) $ free1 ! $ move ! (38 ∷ 39 ∷ []) $ free1 ! $ move ! (36 ∷ 37 ∷ []) $ free1 ! $ move ! (34 ∷ 35 ∷ []) $ free1 ! $ move ! (32 ∷ 33 ∷ []) $ free1 ! $ move ! (30 ∷ 31 ∷ []) $ free1 ! $ move ! (28 ∷ 29 ∷ []) $ free1 ! $ move ! (26 ∷ 27 ∷ []) $ free1 ! $ move ! (24 ∷ 25 ∷ []) $ free1 ! $ move ! (22 ∷ 23 ∷ []) $ free1 ! $ move ! (20 ∷ 21 ∷ []) $ free1 ! $ move ! (18 ∷ 19 ∷ []) $ free1 ! $ move ! (16 ∷ 17 ∷ []) $ free1 ! $ move ! (14 ∷ 15 ∷ []) $ free1 ! $ move ! (12 ∷ 13 ∷ []) $ free1 ! $ move ! (10 ∷ 11 ∷ []) $ free1 ! $ free0 ! $
+        keep ! (6 ∷ 1 ∷ 9 ∷ 2 ∷ []) $ by ! (exits r w (xs .0) is-r (rows-call (now game) ys made e-n e-x) e-l))))))))))))))))))))))))))))))))))))))))))))))))))))))))))))))
 
 module _ {M : Type 1} (𝓤 : URA M) (H : Heap 𝓤) (A : Atoms 𝓤) (W : Given 𝓤 H A) (at-mem : Memory → SProp 𝓤) (run : Routine → Fun 𝓤) where
   payoff-rows-walks : (C : Calls 𝓤 H) (Λ : Loops 𝓤 H) → FmC 𝓤 H (W .laws) C → Triple 𝓤 (C #rows·laid-out) (LaidOut 𝓤 H A at-mem run) → Triple 𝓤 (C #rows·rows-given) (RowsGiven 𝓤 H A at-mem run) → Triple 𝓤 (C #rows·fill-rows) (FillRows 𝓤 H A at-mem run)

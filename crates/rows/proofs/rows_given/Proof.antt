@@ -9,4 +9,4 @@ refused : tie.Need-returns-2
 refused c = ap rowsGiven (sym (c .enum-told .given .1))
 
 pub rows-given-spec : {M : Type 1} → statement M
-rows-given-spec = tie.close (tie.spec (λ c. search needs) (λ c κs. search needs) (λ c. search needs) (λ c. search needs) refused)
+rows-given-spec = tie.close (tie.spec (λ c. search needs) (λ c. search needs) (λ c. search needs) refused)

@@ -1,4 +1,4 @@
--- What is prepared stays so; the room for moves is an array's.
+-- The loaded game stays as it is; the rooms are arrays'.
 use Prim.Native.Nat.{_-_}
 use mathlib.Core.Path.{_≡_}
 use native.Mathlib.Omega.{arith}
@@ -9,15 +9,15 @@ use Rattle.time_responses.proofs.repeat.Statement.{statement}
 use Rattle.time_responses.proofs.repeat.Tie as tie
 
 abbrev Inv-loop : tie.InvT-loop
-Inv-loop game header sequences leaves own opponent chance payoffs y head next lead start count node times moves₀ k₀ moves k = length moves ≡ countLimit
+Inv-loop numbers payoffs counts y times sums₀ worths₀ moves₀ k₀ sums worths moves k = (length sums ≡ countLimit) × (length worths ≡ countLimit) × (length moves ≡ countLimit)
 
 abbrev μ-loop : tie.MeasureT-loop
-μ-loop game header sequences leaves own opponent chance payoffs y head next lead start count node times moves₀ k₀ moves k = times - k
+μ-loop numbers payoffs counts y times sums₀ worths₀ moves₀ k₀ sums worths moves k = times - k
 
-prepared-best-requires : tie.Need-prepared-best-requires Inv-loop μ-loop
-prepared-best-requires c κs =
-    let q = c .before .before .before .before .before .before .before .before .before .before .before .before .before .before .pre in
-    (q .0, q .1, q .2, q .3, q .4, q .5, omega (arith, c .before .before .loop .inv))
+best-response-requires : tie.Need-best-response-requires Inv-loop μ-loop
+best-response-requires c κs =
+    let held = c .before .before .before .before .loop .inv in
+    (c .before .before .before .before .before .before .before .pre, omega (arith, held .0), omega (arith, held .1), omega (arith, held .2))
 
 pub repeat-spec : {M : Type 1} → statement M
 repeat-spec =
@@ -27,7 +27,9 @@ repeat-spec =
     μ-loop
     (λ c. search needs)
     (λ c. search needs)
-    prepared-best-requires
+    (λ c. search needs)
+    (λ c. search needs)
+    best-response-requires
     (λ c. omega arith)
     (λ c. omega arith)
     (λ c. search needs)

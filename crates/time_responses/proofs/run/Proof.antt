@@ -1,42 +1,39 @@
--- The weights that were read are those of a pair that fits.
-use Prim.Native.Nat.{ℕ, _≤_}
-use mathlib.Core.Path.{_≡_}
+-- A pair that was read and fits: its game is loaded, and player 2's weights are in their array.
 use mathlib.Core.List.{List}
+use mathlib.Core.Path.{_≡_}
+use Prim.Native.Nat.{ℕ}
 use native.Mathlib.Omega.{arith}
 use borrow.Author.Needs.{needs}
-use lib.ListN.{length, replicate}
+use lib.IntN.{ℤ}
+use lib.ListN.{replicate}
 use Rattle.model.specs.Limits.{countLimit}
-use Rattle.model.specs.Game.{gameOf, one, two}
-use Rattle.model.specs.Checks.{pairRefusal}
-use Rattle.model.proofs.Budget.{game-limits}
-use Rattle.model.proofs.Checks.{game-rules}
+use Rattle.model.specs.Game.{gameOf, two}
 use Rattle.plan.specs.declared.PairHeader.{PairHeader}
-use Rattle.plan.specs.Weights.{Weights}
-use Rattle.plan.specs.Refusals.{weightsAfter}
-use Rattle.plan.proofs.Pairs.{PairOpened, pair-opened, pair-over, pair-holds}
-use Rattle.plan.proofs.StoredWeights.{stored-fits, stored-zeros}
-use Rattle.form.proofs.PairBudget.{weights2}
+use Rattle.plan.specs.declared.PairAnswer.{PairAnswer}
+use Rattle.plan.specs.declared.PairAnswer.the-variants.{Fits}
+use Rattle.plan.specs.Refusals.{PairRead}
+use Rattle.plan.proofs.ByNumber.{small-number}
+use Rattle.plan.proofs.Pairs.{pair-opened, pair-holds}
+use Rattle.responses.specs.Responses.{ResponseAsked}
 use Rattle.time_responses.proofs.run.Statement.{statement}
 use Rattle.time_responses.proofs.run.Tie as tie
 
--- player 2's weights
-weights-read : (game plan : List ℕ) {h : PairHeader} → PairOpened game plan h → {x y : List ℕ} → x ≡ weightsAfter (pairRefusal game plan) game plan one (replicate countLimit 0) → y ≡ weightsAfter (pairRefusal game plan) game plan two (replicate countLimit 0) → countLimit ≤ length x → countLimit ≤ length y → Weights (gameOf game) two y
-weights-read game plan o {x} {y} a b long1 long2 =
-    let zeros = replicate {A = ℕ} countLimit 0 in
-    weights2 (gameOf game) (game-rules game (o .game-none)) (game-limits game) {x = x} (record {
-      long1 = long1;
-      long2 = long2;
-      small1 = stored-zeros (gameOf game) plan one (pair-over game plan o one zeros a);
-      small2 = stored-zeros (gameOf game) plan two (pair-over game plan o two zeros b);
-      fit = stored-fits game plan (o .none) (pair-holds game plan o one zeros a (omega arith)) (pair-holds game plan o two zeros b (omega arith));
-    })
+-- player 1's best response can be asked for
+asked : (game plan : List ℕ) {a : PairAnswer} {h : PairHeader} {numbers : List ℕ} {payoffs : List ℤ} {x y : List ℕ} → PairRead game plan a numbers payoffs (replicate countLimit 0) x (replicate countLimit 0) y → a ≡ Fits h → ResponseAsked (h .counts) numbers payoffs 0 y
+asked game plan read fits =
+    let o = pair-opened game plan (read .answer) fits in
+    let held = pair-holds game plan o two (replicate countLimit 0) (read .second) (omega arith) in
+    record {
+      game = gameOf game;
+      loaded = rw (o .counts) (read .loaded (o .game-none));
+      is-player = omega arith;
+      weights = record { long = held .long; small = λ i l. omega (arith, held .at i l, small-number (gameOf game) plan two i) };
+    }
 
-with-numbers-requires : tie.Need-with-numbers-requires
-with-numbers-requires c κs =
-    let a = c .before .before .before .before .before .before .before .before .before .before .before .args in
-    let read = c .before .before .before .before .before .before .read in
-    let o = pair-opened (a .game .now) (a .plan .now) (read .ensures .0) (c .before .before .answer .given .1) in
-    (o .header, game-rules (a .game .now) (o .game-none), weights-read (a .game .now) (a .plan .now) o (read .ensures .1) (read .ensures .2) (omega (arith, read .kept)) (omega (arith, read .kept)))
+repeat-requires : tie.Need-repeat-requires
+repeat-requires c κs =
+    let a = c .before .before .before .before .before .before .before .before .before .before .before .before .before .before .before .before .before .args in
+    asked (a .game .now) (a .plan .now) (c .before .before .before .before .before .before .before .before .before .before .read .ensures) (c .before .before .before .before .answer .given .1)
 
 pub run-spec : {M : Type 1} → statement M
 run-spec =
@@ -44,6 +41,8 @@ run-spec =
     (tie.spec
     (λ c. search needs)
     (λ c. search needs)
+    (λ c. search needs)
+    (λ c. search needs)
     (λ c κs. search needs)
     (λ c. search needs)
     (λ c. search needs)
@@ -51,6 +50,8 @@ run-spec =
     (λ c κs. search needs)
     (λ c. search needs)
     (λ c. search needs)
-    with-numbers-requires
+    (λ c. search needs)
+    (λ c. search needs)
+    repeat-requires
     (λ c κs. search needs)
     (λ c. search needs))

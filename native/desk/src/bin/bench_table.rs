@@ -1,28 +1,15 @@
-//! The payoff table, beside plain Rust by the same method, in one run: with the game's check,
-//! and without it, as the difference.
+//! The payoff table, beside plain Rust by the same method and by a free choice of method.
 
-use desk::form::{payoff_table, TableBuffers};
-use desk::plain::{self, BitLoop, Word};
-use desk::samples::{samples, Sample};
-use desk::timing::{calls, compare, game_checks};
-use desk::Refusal;
+use desk::bench::Bench;
+use desk::form::TableBuffers;
 use reference::limits::MOST_ENTRIES;
+use std::error::Error;
 
-fn report(Sample { name, pairs }: &Sample) {
-    let games: Vec<&[u8]> = pairs.iter().map(|pair| pair.game.as_slice()).collect();
-    let tables = calls(
-        pairs,
-        &TableBuffers::with_room(MOST_ENTRIES),
-        [
-            |game, _, lent| payoff_table(game, lent),
-            |game, _, lent| plain::table::payoff_table::<BitLoop>(game, lent),
-            |game, _, lent| plain::table::payoff_table::<Word>(game, lent),
-        ],
-    );
-    compare(name, "table", pairs.len(), game_checks(&games), tables);
-}
-
-fn main() -> Result<(), Refusal> {
-    samples()?.iter().for_each(report);
-    Ok(())
+fn main() -> Result<(), Box<dyn Error>> {
+    let bench = Bench {
+        name: "table",
+        lent: TableBuffers::with_room(MOST_ENTRIES),
+        call: |variant, pair, lent| variant.payoff_table(&pair.game, lent),
+    };
+    bench.run()
 }

@@ -1,26 +1,14 @@
-//! Values and best values, beside plain Rust by the same method, in one run: with the check of
-//! game and plan, and without it, as the difference.
+//! Values and best values, beside plain Rust by the same method and by a free choice of method.
 
-use desk::form::{values, Values};
-use desk::plain::{self, BitLoop, Word};
-use desk::samples::{samples, Sample};
-use desk::timing::{calls, compare, plan_checks};
-use desk::Refusal;
+use desk::bench::Bench;
+use desk::form::Values;
+use std::error::Error;
 
-fn report(Sample { name, pairs }: &Sample) {
-    let values = calls(
-        pairs,
-        &Values::default(),
-        [
-            values,
-            plain::form::values::<BitLoop>,
-            plain::form::values::<Word>,
-        ],
-    );
-    compare(name, "values", pairs.len(), plan_checks(pairs), values);
-}
-
-fn main() -> Result<(), Refusal> {
-    samples()?.iter().for_each(report);
-    Ok(())
+fn main() -> Result<(), Box<dyn Error>> {
+    let bench = Bench {
+        name: "values",
+        lent: Values::default(),
+        call: |variant, pair, lent| variant.values(&pair.game, &pair.plan, lent),
+    };
+    bench.run()
 }

@@ -1,7 +1,8 @@
-//! Checks 14 to 16 and the fields of a plan: the weights are decoded into two arrays
-//! by sequence number, and each set is compared with its leading sequence in one pass.
+//! Checks 14 to 16 and the fields of a plan: the weights are decoded into two columns by
+//! sequence number, and each set is compared with its leading sequence.
 
-use super::{accepted, Frame, Reader, LIMIT};
+use super::load::{Column, Loaded, ROOM};
+use super::{require, Reader};
 use crate::{PlanBuffers, Refusal};
 
 const HEADER_BITS: usize = 32;
@@ -10,8 +11,7 @@ const WIDTH: usize = 12;
 /// What stands in a plan file before the weights, and after them.
 struct Header {
     edition: u64,
-    d1: u64,
-    d2: u64,
+    denominators: [u64; 2],
     zeros: u64,
     filling: u64,
 }
@@ -21,8 +21,7 @@ impl Header {
         let end = HEADER_BITS + WIDTH * moves;
         Header {
             edition: R::field(plan, 0, 4),
-            d1: R::field(plan, 4, 12),
-            d2: R::field(plan, 16, 12),
+            denominators: [R::field(plan, 4, 12), R::field(plan, 16, 12)],
             zeros: R::field(plan, 28, 4),
             filling: match 8 * plan.len() - end {
                 0 => 0,
@@ -32,81 +31,60 @@ impl Header {
     }
 
     fn well_formed(&self) -> bool {
-        self.edition == 1 && self.d1 > 0 && self.d2 > 0 && self.zeros == 0 && self.filling == 0
-    }
-}
-
-/// Reads a run of weights from bit `at` on into `out` from place `from` on.
-fn read_run<R: Reader>(plan: &[u8], at: usize, count: usize, out: &mut [u64], from: usize) {
-    for i in 0..count {
-        out[from + i] = R::field(plan, at + WIDTH * i, WIDTH);
-    }
-}
-
-impl Frame<'_> {
-    fn player_fits<R: Reader>(
-        &self,
-        player: u64,
-        starts: &[u64],
-        first: &[u64],
-        own: &mut [u64],
-        weights: &[u64],
-    ) -> bool {
-        self.own_numbers::<R>(player, starts, own);
-        (0..self.sets).all(|h| {
-            let (owner, moves) = self.set::<R>(h);
-            if owner != player {
-                return true;
-            }
-            let mut sum = 0;
-            for place in 0..moves {
-                sum += weights[starts[h] as usize + place];
-            }
-            sum == weights[own[first[h] as usize] as usize]
-        })
-    }
-
-    fn pair_fits<R: Reader>(&self, starts: &[u64], weights: &[[u64; LIMIT]; 2]) -> bool {
-        let mut first = [0u64; LIMIT];
-        let mut own = [0u64; LIMIT];
-        self.first_nodes::<R>(&mut first);
-        self.player_fits::<R>(0, starts, &first, &mut own, &weights[0])
-            && self.player_fits::<R>(1, starts, &first, &mut own, &weights[1])
+        let denominators = self.denominators.iter().all(|&number| number > 0);
+        self.edition == 1 && denominators && self.zeros == 0 && self.filling == 0
     }
 }
 
 /// Both players' weights by sequence number, D1 and D2 first.
 pub(super) struct Pair {
-    pub weights: [[u64; LIMIT]; 2],
-    /// How many moves each player has.
-    pub moves: [usize; 2],
+    pub weights: [Column; 2],
 }
 
-impl Frame<'_> {
-    /// Checks 14 to 16.
-    pub(super) fn fitting<R: Reader>(&self, plan: &[u8]) -> Result<Pair, Refusal> {
-        let mut starts = [0u64; LIMIT];
-        let moves = self
-            .first_sequences::<R>(&mut starts)
-            .map(|count| count as usize - 1);
-        let total = moves[0] + moves[1];
-        if plan.len() != 4 + (WIDTH * total).div_ceil(8) {
-            return Err(14);
+impl Pair {
+    pub fn new() -> Pair {
+        Pair {
+            weights: [[0; ROOM]; 2],
         }
-        let header = Header::read::<R>(plan, total);
-        if !header.well_formed() {
-            return Err(15);
-        }
-        let mut weights = [[0u64; LIMIT]; 2];
-        weights[0][0] = header.d1;
-        weights[1][0] = header.d2;
-        read_run::<R>(plan, HEADER_BITS, moves[0], &mut weights[0], 1);
-        let second = HEADER_BITS + WIDTH * moves[0];
-        read_run::<R>(plan, second, moves[1], &mut weights[1], 1);
-        if !self.pair_fits::<R>(&starts, &weights) {
-            return Err(16);
-        }
-        Ok(Pair { weights, moves })
+    }
+
+    /// Checks 14 to 16, with both columns filled.
+    pub fn read<R: Reader>(&mut self, game: &Loaded, plan: &[u8]) -> Result<(), Refusal> {
+        let [first, second] = game.sequences.map(|count| count - 1);
+        let moves = first + second;
+        require(plan.len() == 4 + (WIDTH * moves).div_ceil(8), 14)?;
+        let header = Header::read::<R>(plan, moves);
+        require(header.well_formed(), 15)?;
+        let [d1, d2] = header.denominators;
+        self.weights[0][0] = d1 as u16;
+        self.weights[1][0] = d2 as u16;
+        read_run::<R>(plan, 0, &mut self.weights[0][1..=first]);
+        read_run::<R>(plan, first, &mut self.weights[1][1..=second]);
+        require((0..2).all(|player| self.fits(game, player)), 16)
+    }
+
+    /// Whether in each of a player's sets the weights of the moves add up to that of the leading
+    /// sequence.
+    fn fits(&self, game: &Loaded, player: usize) -> bool {
+        let weights = &self.weights[player];
+        let mut own = (0..game.sets).filter(|&h| game.player(h) == player);
+        own.all(|h| {
+            let moves = weights[game.sequences_of(h)].iter();
+            let sum: usize = moves.map(|&weight| usize::from(weight)).sum();
+            sum == usize::from(weights[usize::from(game.leads[h])])
+        })
+    }
+
+    /// D1 or D2.
+    pub fn denominator(&self, player: usize) -> u64 {
+        self.weights[player][0].into()
+    }
+}
+
+/// Reads weights from the file's number `from` on.
+fn read_run<R: Reader>(plan: &[u8], from: usize, out: &mut [u16]) {
+    for (i, weight) in (from..).zip(out) {
+        *weight = R::field(plan, HEADER_BITS + WIDTH * i, WIDTH) as u16;
     }
 }
 
@@ -116,13 +94,16 @@ pub fn plan_fields<R: Reader>(
     plan: &[u8],
     buffers: &mut PlanBuffers,
 ) -> Result<(), Refusal> {
-    let pair = accepted::<R>(game)?.fitting::<R>(plan)?;
-    let moves = pair.moves[0] + pair.moves[1];
-    if buffers.weights.len() < moves {
-        return Err(18);
+    let mut loaded = Loaded::new();
+    let mut pair = Pair::new();
+    loaded.load::<R>(game)?;
+    pair.read::<R>(&loaded, plan)?;
+    let [one, two] = [0, 1].map(|player| &pair.weights[player][1..loaded.sequences[player]]);
+    require(buffers.weights.len() >= one.len() + two.len(), 18)?;
+    for (given, &weight) in buffers.weights.iter_mut().zip(one.iter().chain(two)) {
+        *given = weight.into();
     }
-    read_run::<R>(plan, HEADER_BITS, moves, &mut buffers.weights, 0);
-    buffers.d1 = pair.weights[0][0];
-    buffers.d2 = pair.weights[1][0];
+    buffers.d1 = pair.denominator(0);
+    buffers.d2 = pair.denominator(1);
     Ok(())
 }

@@ -1,7 +1,9 @@
 //! The verdict on a plan pair.
 
-use super::worths::Form;
-use super::{accepted, Reader, LIMIT};
+use super::form::Evaluated;
+use super::load::Loaded;
+use super::plan::Pair;
+use super::{require, Reader};
 use crate::verdict::VerdictBuffers;
 use crate::Refusal;
 
@@ -11,41 +13,39 @@ pub fn verdict<R: Reader>(
     plan: &[u8],
     buffers: &mut VerdictBuffers,
 ) -> Result<(), Refusal> {
-    let frame = accepted::<R>(game)?;
-    let pair = frame.fitting::<R>(plan)?;
-    let form = Form::of::<R>(&frame);
-    let base = frame.root_weight * pair.weights[0][0] * pair.weights[1][0];
-    let mut worth = [0i64; LIMIT];
-    for player in 0..2 {
-        let best = form.best(player, &pair, &mut worth);
-        let value = form.leaves.value(player, &pair.weights);
-        let gain = best * pair.weights[player][0] as i64 - value;
-        if gain > 0 {
-            let count = show(&form, player, &worth, &mut buffers.moves)?;
-            buffers.player = player as u64 + 1;
-            buffers.gain = gain;
-            buffers.base = base;
-            buffers.count = count as u64;
-            return Ok(());
-        }
-    }
-    buffers.player = 0;
-    buffers.gain = 0;
-    buffers.base = base;
-    buffers.count = 0;
+    let mut loaded = Loaded::new();
+    let mut pair = Pair::new();
+    let mut evaluated = Evaluated::new();
+    loaded.load::<R>(game)?;
+    pair.read::<R>(&loaded, plan)?;
+    evaluated.evaluate(&loaded, &pair);
+    let [d1, d2] = [0, 1].map(|player| pair.denominator(player));
+    let gain = |player: usize| {
+        evaluated.bests[player] * pair.denominator(player) as i64 - evaluated.values[player]
+    };
+    let gainer = (0..2).find(|&player| gain(player) > 0);
+    buffers.count = match gainer {
+        Some(player) => show(&loaded, player, &evaluated, &mut buffers.moves)?,
+        None => 0,
+    };
+    buffers.player = gainer.map_or(0, |player| player as u64 + 1);
+    buffers.gain = gainer.map_or(0, gain);
+    buffers.base = loaded.root_weight * d1 * d2;
     Ok(())
 }
 
 /// The best move of each of the player's sets into the buffer, and how many there are, or 18.
-fn show(form: &Form, player: usize, worth: &[i64], moves: &mut [u64]) -> Result<usize, Refusal> {
-    let own = |&h: &usize| form.players[h] == player;
-    if moves.len() < (0..form.sets).filter(own).count() {
-        return Err(18);
+fn show(
+    game: &Loaded,
+    player: usize,
+    evaluated: &Evaluated,
+    moves: &mut [u64],
+) -> Result<u64, Refusal> {
+    let own = |&h: &usize| game.player(h) == player;
+    let count = (0..game.sets).filter(own).count();
+    require(moves.len() >= count, 18)?;
+    for (shown, h) in moves.iter_mut().zip((0..game.sets).filter(own)) {
+        *shown = evaluated.moves[player][h].into();
     }
-    let mut at = 0;
-    for h in (0..form.sets).filter(own) {
-        moves[at] = form.best_move(worth, h) as u64;
-        at += 1;
-    }
-    Ok(at)
+    Ok(count as u64)
 }

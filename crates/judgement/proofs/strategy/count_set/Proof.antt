@@ -10,5 +10,5 @@ count-set-spec =
     (tie.spec
     (λ c κs. search needs)
     (λ c. search needs)
-    (λ c. next-own (c .before .before .read .ensures) _ _ (c .if1 .taken))
-    (λ c. next-other (c .before .before .read .ensures) _ _ (c .before .before .before .before .pre .0) (c .if1 .left)))
+    (λ c. next-own _ _ _ (c .before .number .ensures .0) _ (c .if1 .taken))
+    (λ c. next-other _ _ _ (c .before .number .ensures .0) _ (c .if1 .left)))

@@ -9,21 +9,19 @@ use Rattle.judgement.proofs.strategy.put_move.Tie as tie
 -- there is a place for it
 slice-write-out : tie.Need-slice-write-out
 slice-write-out c =
-    let s = c .before .before .before .before .before .before .before in
-    omega (arith, s .pre .4, next-own (c .before .before .before .read .ensures) _ (s .args .at) (c .before .if1 .taken))
+    let s = c .before .before .before .before .before .before in
+    omega (arith, s .pre .2, next-own (s .args .numbers .now) (s .args .player) (s .args .h) (c .before .before .number .ensures .0) (s .args .at) (c .before .if1 .taken))
 
 returns : tie.Need-returns
 returns c =
-    let s = c .before .before .before .before .before .before .before in
-    let read = c .before .before .before .read .ensures in
+    let read = c .before .before .number .ensures .0 in
     let own = c .before .if1 .taken in
-    (next-own read _ _ own, put-own read _ _ _ _ _ _ refl own (slice-write-out c) refl)
+    (next-own _ _ _ read _ own, put-own _ _ _ read _ _ _ _ _ refl own (slice-write-out c) refl)
 
 returns-2 : tie.Need-returns-2
 returns-2 c =
-    let l = c .before .before .before .before .before .before .pre .0 in
-    let read = c .before .before .read .ensures in
-    (next-other read _ _ l (c .if1 .left), put-other read _ _ _ _ l (c .if1 .left))
+    let read = c .before .number .ensures .0 in
+    (next-other _ _ _ read _ (c .if1 .left), put-other _ _ _ read _ _ _ (c .if1 .left))
 
 pub put-move-spec : {M : Type 1} → statement M
 put-move-spec =
@@ -32,6 +30,7 @@ put-move-spec =
     (λ c κs. search needs)
     (λ c. search needs)
     (λ c. search needs)
+    (λ c. omega (arith, c .shared-slice-known3 .given (c .before .before .before .before .before .before .args .h)))
     (λ c. search needs)
     slice-write-out
     (λ c. search needs)

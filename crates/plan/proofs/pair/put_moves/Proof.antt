@@ -1,6 +1,6 @@
 -- The invariant: the places from `at` on hold the first `i` weights.
 use Prim.Native.Nat.{ℕ, suc, _-_}
-use mathlib.Core.Path.{_≡_, ap}
+use mathlib.Core.Path.{_≡_, ap, _∙_}
 use native.Mathlib.Omega.{arith}
 use lib.ListN.{length}
 use Rattle.algebra.specs.Arrays.{item}
@@ -14,8 +14,11 @@ Inv-loop x moves out₀ at i₀ out i = Placing at (λ k. item x (suc k)) moves 
 abbrev μ-loop : tie.MeasureT-loop
 μ-loop x moves out₀ at i₀ out i = moves - i
 
-long : (c : tie.At-loop Inv-loop μ-loop) → length (c .loop .out) ≡ length (c .before .args .out .now)
+long : (c : tie.At-loop Inv-loop μ-loop) → length (c .loop .out) ≡ length (c .before .before .before .args .out .now)
 long c = placing-long _ _ _ _ _ _ (c .loop .inv) (omega arith)
+
+again : tie.Need-loop-again Inv-loop μ-loop
+again c = placing-more _ _ _ _ _ _ _ (c .before .before .loop .inv) (omega arith) (omega arith) (c .number .ensures .0 ∙ ap (λ (k : ℕ). item (c .before .before .before .before .before .args .x .now) k) (omega arith))
 
 pub put-moves-spec : {M : Type 1} → statement M
 put-moves-spec =
@@ -24,14 +27,12 @@ put-moves-spec =
     Inv-loop
     μ-loop
     (λ c. placing-none _ _ _ _)
-    (λ c. omega arith)
-    (λ c. omega arith)
-    (λ c. omega arith)
+    (λ c κs. omega arith)
     (λ c. omega (arith, long (c .before .before)))
     (λ c. omega (arith, long (c .before .before)))
     (λ c. omega (arith, long (c .before .before)))
     (λ c. omega arith)
     (λ c. omega arith)
-    (λ c. placing-more _ _ _ _ _ _ _ (c .before .before .loop .inv) (omega arith) (omega arith) (ap (λ (k : ℕ). item (c .before .before .before .args .x .now) k) (omega arith)))
+    again
     (λ c. long (c .before))
     (λ c. placing-all _ _ _ _ _ _ (c .before .loop .inv) (omega arith)))

@@ -1,9 +1,12 @@
 -- The game's refusal comes first, then the plan's.
-use mathlib.Core.Path.{refl, sym, _∙_}
+use mathlib.Core.Path.{_≡_, refl, sym, _∙_}
 use borrow.Author.Needs.{needs}
-use Rattle.model.specs.Game.{one, two}
-use Rattle.model.proofs.Checks.{game-rules}
-use Rattle.game.proofs.Refusals.{opened, refused-with, refuses}
+use Rattle.model.specs.Game.{gameOf, one, two}
+use Rattle.model.specs.Checks.{gameRefusal}
+use Rattle.loaded.specs.Counts.{countsOf}
+use Rattle.loaded.specs.Loaded.{NumbersLoaded}
+use Rattle.game.proofs.Refusals.{refuses}
+use Rattle.game.proofs.Loads.{load-accepted, load-refused}
 use Rattle.plan.specs.declared.PairAnswer.the-variants.{Refused}
 use Rattle.plan.specs.Refusals.{pairAnswer}
 use Rattle.plan.proofs.Refusals.{after-early}
@@ -13,40 +16,47 @@ use Rattle.plan.proofs.pair.read.Tie as tie
 
 game-refused-with : tie.Need-returns
 game-refused-with c =
-    let a = c .before .before .before .before .before .before .before .before .args in
+    let a = c .before .before .before .before .before .before .before .before .before .before .before .before .before .before .args in
     let g = a .game .now in
     let p = a .plan .now in
-    let s = refused-with g (c .before .before .before .check .ensures) (c .before .enum-told .given .1) (c .refusal .ensures) in
-    let e = game-refused g p s in
-    (refuses (λ k. pairAnswer k g p) Refused (λ k. refl) e (s .some), after-early g p one _ _ e (game-early g p s), after-early g p two _ _ e (game-early g p s))
+    let e = c .before .before .before .before .before .before .load .ensures in
+    let s = load-refused g (e .answer) (c .before .enum-told .given .1) (c .load-refusal .ensures) in
+    let n = game-refused g p (s .0) (s .1) in
+    let early = game-early g p (s .0) (s .1) in
+    record { answer = refuses (λ k. pairAnswer k g p) Refused (λ k. refl) n (s .1); first = after-early g p one _ _ n early; second = after-early g p two _ _ n early; loaded = e .loaded }
 
-check-requires : tie.Need-check-requires-2
+-- an accepted game
+accepted : (c : tie.After-loaded) → let game = c .before .before .before .before .before .before .before .before .before .before .before .before .before .args .game .now in (gameRefusal game ≡ 0) × (c .loaded .given .0 .0 ≡ countsOf (gameOf game))
+accepted c = load-accepted _ (c .before .before .before .before .before .load .ensures .answer) (c .loaded .given .1)
+
+-- is loaded
+loads : (c : tie.After-loaded) → NumbersLoaded (gameOf (c .before .before .before .before .before .before .before .before .before .before .before .before .before .args .game .now)) (c .loaded .given .0 .0) (c .before .before .before .before .before .load .last .1 .0)
+loads c = let e = accepted c in rw (e .1) (c .before .before .before .before .before .load .ensures .loaded (e .0) .in-numbers)
+
+check-requires : tie.Need-check-requires
 check-requires c κs =
-    let s = c .before .before .before .before .before .before .before .before .before .before in
-    let g = s .args .game .now in
-    let o = opened g (c .before .before .before .before .before .check .ensures) (c .before .before .before .checked .given .1) in
-    (o .header, game-rules g (o .none), s .pre .0, s .pre .1)
+    let s = c .before .before .before .before .before .before .before .before .before .before .before .before .before .before .before .before .before in
+    (record { game = gameOf (s .args .game .now); loaded = loads (c .before .before .before .before) }, s .pre .2, s .pre .3)
 
 plan-refused : tie.Need-returns-2
 plan-refused c =
-    let a = c .before .before .before .before .before .before .before .before .before .before .before .before .before .before .before .before .before .before .args in
+    let a = c .before .before .before .before .before .before .before .before .before .before .before .before .before .before .before .before .before .before .before .before .before .before .before .before .before .args in
     let g = a .game .now in
     let p = a .plan .now in
-    let o = opened g (c .before .before .before .before .before .before .before .before .before .before .before .before .before .check .ensures) (c .before .before .before .before .before .before .before .before .before .before .before .checked .given .1) in
-    let d = plan-decides g p (o .none) in
-    let e = c .before .before .before .before .before .before .before .check2 .ensures in
-    let s = plan-refused-with g p (e .0) (c .before .enum-told2 .given .1) (c .plan-refusal .ensures) in
-    (refuses (λ k. pairAnswer k g p) Refused (λ k. refl) (d ∙ sym (s .0)) (s .1), rw d (e .1), rw d (e .2))
+    let d = plan-decides g p (accepted (c .before .before .before .before .before .before .before .before .before .before .before .before) .0) in
+    let e = c .before .before .before .before .before .before .before .check .ensures g (loads (c .before .before .before .before .before .before .before .before .before .before .before .before)) in
+    let s = plan-refused-with g p (e .answer) (c .before .enum-told2 .given .1) (c .plan-refusal .ensures) in
+    record { answer = refuses (λ k. pairAnswer k g p) Refused (λ k. refl) (d ∙ sym (s .0)) (s .1); first = rw d (e .first); second = rw d (e .second); loaded = c .before .before .before .before .before .before .before .before .before .before .before .before .before .before .before .before .before .load .ensures .loaded }
 
 fits : tie.Need-returns-3
 fits c =
-    let a = c .before .before .before .before .before .before .before .before .before .before .before .before .before .before .before .before .before .before .args in
+    let a = c .before .before .before .before .before .before .before .before .before .before .before .before .before .before .before .before .before .before .before .before .before .before .before .before .before .args in
     let g = a .game .now in
     let p = a .plan .now in
-    let o = opened g (c .before .before .before .before .before .before .before .before .before .before .before .before .before .check .ensures) (c .before .before .before .before .before .before .before .before .before .before .before .checked .given .1) in
-    let d = plan-decides g p (o .none) in
-    let e = c .before .before .before .before .before .before .before .check2 .ensures in
-    (pair-fits-as g p (o .none) (o .header) (e .0) (c .before .answer .given .1), rw d (e .1), rw d (e .2))
+    let o = accepted (c .before .before .before .before .before .before .before .before .before .before .before .before) in
+    let d = plan-decides g p (o .0) in
+    let e = c .before .before .before .before .before .before .before .check .ensures g (loads (c .before .before .before .before .before .before .before .before .before .before .before .before)) in
+    record { answer = pair-fits-as g p (o .0) (o .1) (e .answer) (c .before .answer .given .1); first = rw d (e .first); second = rw d (e .second); loaded = c .before .before .before .before .before .before .before .before .before .before .before .before .before .before .before .before .before .load .ensures .loaded }
 
 pub read-spec : {M : Type 1} → statement M
 read-spec =
@@ -56,6 +66,8 @@ read-spec =
     (λ c. search needs)
     (λ c. search needs)
     (λ c κs. search needs)
+    (λ c. search needs)
+    (λ c. search needs)
     game-refused-with
     check-requires
     (λ c. search needs)
@@ -63,7 +75,11 @@ read-spec =
     (λ c κs. search needs)
     (λ c. search needs)
     (λ c. search needs)
+    (λ c. search needs)
+    (λ c. search needs)
     plan-refused
+    (λ c. search needs)
+    (λ c. search needs)
     (λ c. search needs)
     (λ c. search needs)
     fits)

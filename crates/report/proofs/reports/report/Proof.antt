@@ -9,13 +9,13 @@ use Rattle.report.proofs.reports.report.Tie as tie
 
 refused : tie.Need-returns
 refused c =
-    let a = c .before .before .before .before .before .before .before .before .before .before .before .args in
-    let s = evaluation-refused-with (a .game .now) (a .plan .now) (c .before .before .before .before .before .evaluate .ensures .0) (c .before .enum-told .given .1) (c .refusal .ensures) in
+    let a = c .before .before .before .before .before .before .before .before .before .before .before .before .before .before .before .args in
+    let s = evaluation-refused-with (a .game .now) (a .plan .now) (c .before .before .before .before .before .before .before .evaluate .ensures) (c .before .enum-told .given .1) (c .refusal .ensures) in
     report-refused (a .game .now) (a .plan .now) (a .out .now) (s .0) (s .1)
 
 -- what is known of the pair, once it is taken apart
-opened : (c : tie.After-evaluated) → EvaluationOpened (c .before .before .before .before .before .before .before .before .before .before .args .game .now) (c .before .before .before .before .before .before .before .before .before .before .args .plan .now) (c .evaluated .given .0 .0) (c .evaluated .given .0 .1 .0) (c .before .before .before .before .evaluate .last .1 .1 .0) (c .before .before .before .before .evaluate .last .1 .1 .1 .0)
-opened c = evaluation-opened _ _ (c .before .before .before .before .evaluate .ensures) (c .evaluated .given .1)
+opened : (c : tie.After-evaluated) → EvaluationOpened (c .before .before .before .before .before .before .before .before .before .before .before .before .before .before .args .game .now) (c .before .before .before .before .before .before .before .before .before .before .before .before .before .before .args .plan .now) (c .evaluated .given .0 .0) (c .evaluated .given .0 .1 .0) (c .before .before .before .before .before .before .evaluate .last .1 .1 .0) (c .before .before .before .before .before .before .evaluate .last .1 .1 .1 .1 .0) (c .before .before .before .before .before .before .evaluate .last .1 .1 .1 .1 .1 .0)
+opened c = evaluation-opened _ _ (c .before .before .before .before .before .before .evaluate .ensures) (c .evaluated .given .1)
 
 judge-requires : tie.Need-judge-requires
 judge-requires c κs =
@@ -24,21 +24,23 @@ judge-requires c κs =
 
 give-report-requires : tie.Need-give-report-requires
 give-report-requires c κs =
-    let v = opened (c .before .before .before .before .before) in
-    (pair-ready _ _ _ (v .opened) (v .best1 .long) (v .best2 .long), rw (report-agrees _ _ _ v (c .before .before .before .judge .ensures)) (file-most _ _ (v .opened .none)))
+    let v = opened (c .before .before .before .before .before .before) in
+    (pair-ready _ _ _ v, rw (report-agrees _ _ _ v (c .before .before .before .before .judge .ensures)) (file-most _ _ (v .opened .none)))
 
 returns : tie.Need-returns-2
 returns c =
-    let a = c .before .before .before .before .before .before .before .before .before .before .before .before .before .before .before .before .before .before .args in
+    let a = c .before .before .before .before .before .before .before .before .before .before .before .before .before .before .before .before .before .before .before .before .before .before .before .args in
     let g = a .game .now in
     let p = a .plan .now in
-    let v = opened (c .before .before .before .before .before .before .before .before) in
-    (rw (report-agrees g p _ v (c .before .before .before .before .before .before .judge .ensures)) at (c .before .before .give-report .ensures)) ∙ report-given g p (a .out .now) (v .opened .none)
+    let v = opened (c .before .before .before .before .before .before .before .before .before) in
+    (rw (report-agrees g p _ v (c .before .before .before .before .before .before .before .judge .ensures)) at (c .before .before .give-report .ensures)) ∙ report-given g p (a .out .now) (v .opened .none)
 
 pub report-spec : {M : Type 1} → statement M
 report-spec =
     tie.close
     (tie.spec
+    (λ c. search needs)
+    (λ c. search needs)
     (λ c. search needs)
     (λ c. search needs)
     (λ c κs. search needs)
@@ -47,6 +49,7 @@ report-spec =
     (λ c κs. search needs)
     refused
     judge-requires
+    (λ c. search needs)
     (λ c. search needs)
     (λ c. search needs)
     give-report-requires

@@ -4,8 +4,6 @@ use mathlib.Core.Path.{_≡_}
 use mathlib.Core.List.{List}
 use native.Mathlib.Omega.{arith}
 use Rattle.algebra.specs.Bounded.{joinTo}
-use Rattle.model.specs.Game.{gameOf, playerOf}
-use Rattle.records.proofs.Widths.{few-sets}
 use Rattle.text.specs.Text.{TextFits, Put}
 use Rattle.report.specs.Whole.{setLine, strategyLines}
 use Rattle.text.proofs.Puts.{put-long}
@@ -14,35 +12,34 @@ use Rattle.report.proofs.strategy.put_strategy.Statement.{statement}
 use Rattle.report.proofs.strategy.put_strategy.Tie as tie
 
 abbrev Inv-loop : tie.InvT-loop
-Inv-loop game sets player moves out₀ at next₀ h₀ out next h =
-    (h ≤ sets) × Put at (joinTo h (setLine (gameOf game) (playerOf player) moves)) out₀ out next
+Inv-loop numbers sets player moves out₀ at next₀ h₀ out next h =
+    (h ≤ sets) × Put at (joinTo h (setLine numbers player moves)) out₀ out next
 
 abbrev μ-loop : tie.MeasureT-loop
-μ-loop game sets player moves out₀ at next₀ h₀ out next h = sets - h
+μ-loop numbers sets player moves out₀ at next₀ h₀ out next h = sets - h
 
 abbrev line-of : tie.Start Inv-loop μ-loop → ℕ → List ℕ
-line-of s = setLine (gameOf (s .args .game .now)) (playerOf (s .args .player)) (s .args .moves .now)
+line-of s = setLine (s .args .numbers .now) (s .args .player) (s .args .moves .now)
 
 -- room for all lines
-room : (s : tie.Start Inv-loop μ-loop) → TextFits (s .args .at) (joinTo (gameOf (s .args .game .now) .sets) (line-of s)) (s .args .out .now)
+room : (s : tie.Start Inv-loop μ-loop) → TextFits (s .args .at) (joinTo (s .args .sets) (line-of s)) (s .args .out .now)
 unfolding strategyLines
-room s = s .pre .3
+room s = s .pre .2
 
 put-set-requires : tie.Need-put-set-requires Inv-loop μ-loop
 put-set-requires c κs =
     let s = c .before .before .before .before .before .before in
-    let few = few-sets (s .args .game .now) in
-    (s .pre .1, omega (arith, few, s .pre .0), omega (arith, s .pre .2), joined-room (line-of s) (omega (arith, s .pre .0)) (room s) (c .before .before .loop .inv .1))
+    (omega (arith, s .pre .0), omega (arith, s .pre .1), joined-room (line-of s) (omega arith) (room s) (c .before .before .loop .inv .1))
 
 again : tie.Need-loop-again Inv-loop μ-loop
 again c =
     let s = c .before .before .before .before .before .before .before .before .before in
-    (omega arith, joined-more (line-of s) (omega (arith, s .pre .0)) (room s) (c .before .before .before .before .before .loop .inv .1) (c .before .before .put-set .ensures))
+    (omega arith, joined-more (line-of s) (omega arith) (room s) (c .before .before .before .before .before .loop .inv .1) (c .before .before .put-set .ensures))
 
 -- all sets are passed
-all : (c : tie.After-loop Inv-loop μ-loop) → Put (c .before .before .before .before .before .args .at) (joinTo (gameOf (c .before .before .before .before .before .args .game .now) .sets) (line-of (c .before .before .before .before .before))) (c .before .before .before .before .before .args .out .now) (c .before .loop .out) (c .before .loop .next)
+all : (c : tie.After-loop Inv-loop μ-loop) → Put (c .before .before .before .before .before .args .at) (joinTo (c .before .before .before .before .before .args .sets) (line-of (c .before .before .before .before .before))) (c .before .before .before .before .before .args .out .now) (c .before .loop .out) (c .before .loop .next)
 all c =
-    let e : c .before .loop .h ≡ gameOf (c .before .before .before .before .before .args .game .now) .sets = omega (arith, c .before .before .before .before .before .pre .0) in
+    let e : c .before .loop .h ≡ c .before .before .before .before .before .args .sets = omega arith in
     rw e at (c .before .loop .inv .1)
 
 returns : tie.Need-returns Inv-loop μ-loop

@@ -9,7 +9,7 @@ use Rattle.report.proofs.whole.bases.Tie as tie
 returns : tie.Need-returns
 returns c =
     let p = c .before .before .before .before .before .before .before .args .pair in
-    bases-are (p .header .«root_weight») (p .denominators .d1) (p .denominators .d2) (c .before .before .before .before .base .ensures)
+    bases-are (p .counts .«root_weight») (p .denominators .d1) (p .denominators .d2) (c .before .before .before .before .base .ensures)
 
 mul-t5 : tie.Need-mul-t5
 mul-t5 c = let p = c .before .before .before .before .before .pre in omega (arith, NatL.mul-le-mul (p .root-few) (p .d1-few), NatL.mul-le-mul (p .root-few) (p .d2-few))

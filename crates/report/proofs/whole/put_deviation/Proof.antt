@@ -1,40 +1,39 @@
 -- The line of the gain, and then the strategy.
-use Prim.Native.Nat.{ℕ}
+use Prim.Native.Nat.{ℕ, suc}
 use mathlib.Core.List.{List}
+use native.Mathlib.Numerals.{add-one}
 use borrow.Author.Needs.{needs}
 use mir.Facts.{toZ-ofZ}
-use Rattle.model.specs.Game.{gameOf, playerOf, playerNumber}
 use Rattle.model.specs.Report.{ascii}
 use Rattle.text.specs.Lines.{fraction, amountLine}
 use Rattle.report.specs.Whole.{deviationText, strategyLines}
 use Rattle.text.proofs.Puts.{room-first, room-then, put-then}
-use Rattle.report.proofs.Strategies.{bit-number}
 use Rattle.report.proofs.whole.put_deviation.Statement.{statement}
 use Rattle.report.proofs.whole.put_deviation.Tie as tie
 
 abbrev gain-line : tie.Start → List ℕ
-gain-line s = amountLine (ascii "deviation player ") (playerNumber (playerOf (s .args .player))) (ascii " gain ") (fraction (s .args .gain) (s .args .base))
+gain-line s = amountLine (ascii "deviation player ") (suc (s .args .player)) (ascii " gain ") (fraction (s .args .gain) (s .args .base))
 
 abbrev lines-of : tie.Start → List ℕ
-lines-of s = strategyLines (gameOf (s .args .game .now)) (playerOf (s .args .player)) (s .args .moves .now)
+lines-of s = strategyLines (s .args .numbers .now) (s .args .sets) (s .args .player) (s .args .moves .now)
 
 put-amount-line-requires : tie.Need-put-amount-line-requires
 unfolding deviationText ascii
 put-amount-line-requires c κs =
     let s = c .before .before .before .before .before .before in
-    rw (toZ-ofZ (s .fits .gain), bit-number (s .args .player) (s .pre .1)) (s .pre .3, room-first (gain-line s) (lines-of s) (s .pre .4))
+    rw (toZ-ofZ (s .fits .gain), add-one) (s .pre .3, room-first (gain-line s) (lines-of s) (s .pre .4))
 
 put-strategy-requires : tie.Need-put-strategy-requires
 unfolding deviationText ascii
 put-strategy-requires c κs =
     let s = c .before .before .before .before .before .before .before .before .before .before in
-    (s .pre .0, s .pre .1, s .pre .2, room-then (rw (toZ-ofZ (s .fits .gain), bit-number (s .args .player) (s .pre .1)) at (c .before .before .before .put-amount-line .ensures)) (lines-of s) (s .pre .4))
+    (s .pre .1, s .pre .2, room-then (rw (toZ-ofZ (s .fits .gain), add-one) at (c .before .before .before .put-amount-line .ensures)) (lines-of s) (s .pre .4))
 
 returns : tie.Need-returns
 unfolding deviationText ascii
 returns c =
     let s = c .before .before .before .before .before .before .before .before .before .before .before .before .before in
-    put-then (rw (toZ-ofZ (s .fits .gain), bit-number (s .args .player) (s .pre .1)) at (c .before .before .before .before .before .before .put-amount-line .ensures)) (s .pre .4) (c .before .before .put-strategy .ensures)
+    put-then (rw (toZ-ofZ (s .fits .gain), add-one) at (c .before .before .before .before .before .before .put-amount-line .ensures)) (s .pre .4) (c .before .before .put-strategy .ensures)
 
 pub put-deviation-spec : {M : Type 1} → statement M
 put-deviation-spec =

@@ -4,7 +4,6 @@ use borrow.Author.Needs.{needs}
 use mir.Syntax.{w64}
 use mir.Val.{SFits}
 use mir.Facts.{toZ-ofZ}
-use Rattle.model.specs.Game.{gameOf}
 use Rattle.report.proofs.Wholes.{text-accepted, text-first, text-second}
 use Rattle.report.proofs.whole.put_verdict.Statement.{statement}
 use Rattle.report.proofs.whole.put_verdict.Tie as tie
@@ -12,7 +11,7 @@ use Rattle.report.proofs.whole.put_verdict.Tie as tie
 returns : tie.Need-returns
 returns c =
     let a = c .before .before .before .before .before .before .before .before .before .before .args in
-    rw (text-accepted (gameOf (a .game .now)) (a .base) (a .moves1 .now) (a .moves2 .now) (c .before .before .before .before .enum-told .given .1)) (c .before .before .put-accepted .ensures)
+    rw (text-accepted (a .numbers .now) (a .sets) (a .base) (a .moves1 .now) (a .moves2 .now) (c .before .before .before .before .enum-told .given .1)) (c .before .before .put-accepted .ensures)
 
 -- what is read of the gain is what it is
 gain-fits : (c : tie.After-known-told) → SFits w64 (c .before .verdict .given .0 .1 .0)
@@ -21,31 +20,31 @@ gain-fits c = search needs
 returns-2 : tie.Need-returns-2
 returns-2 c =
     let a = c .before .before .before .before .before .before .before .before .before .before .before .before .args in
-    let text = text-first (gameOf (a .game .now)) (a .base) (a .moves1 .now) (a .moves2 .now) (c .before .before .before .before .before .before .verdict .given .1) (c .before .before .before .before .if1 .taken) in
+    let text = text-first (a .numbers .now) (a .sets) (a .base) (a .moves1 .now) (a .moves2 .now) (c .before .before .before .before .before .before .verdict .given .1) (c .before .before .before .before .if1 .taken) in
     rw text (rw (toZ-ofZ (gain-fits (c .before .before .before .before .before))) at (c .before .before .put-deviation .ensures))
 
 returns-3 : tie.Need-returns-3
 returns-3 c =
     let a = c .before .before .before .before .before .before .before .before .before .before .before .before .args in
-    let text = text-second (gameOf (a .game .now)) (a .base) (a .moves1 .now) (a .moves2 .now) (c .before .before .before .before .before .before .verdict .given .1) (c .before .before .before .before .if1 .left) in
+    let text = text-second (a .numbers .now) (a .sets) (a .base) (a .moves1 .now) (a .moves2 .now) (c .before .before .before .before .before .before .verdict .given .1) (c .before .before .before .before .if1 .left) in
     rw text (rw (toZ-ofZ (gain-fits (c .before .before .before .before .before))) at (c .before .before .put-deviation2 .ensures))
 
 put-accepted-requires : tie.Need-put-accepted-requires
 put-accepted-requires c κs =
     let s = c .before .before .before .before .before .before .before in
-    rw (text-accepted (gameOf (s .args .game .now)) (s .args .base) (s .args .moves1 .now) (s .args .moves2 .now) (c .before .enum-told .given .1)) at (s .pre .4)
+    rw (text-accepted (s .args .numbers .now) (s .args .sets) (s .args .base) (s .args .moves1 .now) (s .args .moves2 .now) (c .before .enum-told .given .1)) at (s .pre .4)
 
 put-deviation-requires : tie.Need-put-deviation-requires
 put-deviation-requires c κs =
     let s = c .before .before .before .before .before .before .before .before .before in
-    let text = text-first (gameOf (s .args .game .now)) (s .args .base) (s .args .moves1 .now) (s .args .moves2 .now) (c .before .before .before .verdict .given .1) (c .before .if1 .taken) in
-    rw (toZ-ofZ (gain-fits (c .before .before))) (s .pre .0, search needs, omega (arith, s .pre .1, s .pre .2), s .pre .3, rw text at (s .pre .4))
+    let text = text-first (s .args .numbers .now) (s .args .sets) (s .args .base) (s .args .moves1 .now) (s .args .moves2 .now) (c .before .before .before .verdict .given .1) (c .before .if1 .taken) in
+    rw (toZ-ofZ (gain-fits (c .before .before))) (omega arith, s .pre .0, s .pre .1, s .pre .3, rw text at (s .pre .4))
 
 put-deviation-requires-2 : tie.Need-put-deviation-requires-2
 put-deviation-requires-2 c κs =
     let s = c .before .before .before .before .before .before .before .before .before in
-    let text = text-second (gameOf (s .args .game .now)) (s .args .base) (s .args .moves1 .now) (s .args .moves2 .now) (c .before .before .before .verdict .given .1) (c .before .if1 .left) in
-    rw (toZ-ofZ (gain-fits (c .before .before))) (s .pre .0, search needs, omega (arith, s .pre .1, s .pre .2), s .pre .3, rw text at (s .pre .4))
+    let text = text-second (s .args .numbers .now) (s .args .sets) (s .args .base) (s .args .moves1 .now) (s .args .moves2 .now) (c .before .before .before .verdict .given .1) (c .before .if1 .left) in
+    rw (toZ-ofZ (gain-fits (c .before .before))) (omega arith, s .pre .0, s .pre .2, s .pre .3, rw text at (s .pre .4))
 
 pub put-verdict-spec : {M : Type 1} → statement M
 put-verdict-spec =

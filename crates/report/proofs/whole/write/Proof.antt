@@ -2,7 +2,6 @@
 use Prim.Native.Nat.{ℕ}
 use mathlib.Core.List.{List, _++_}
 use borrow.Author.Needs.{needs}
-use Rattle.model.specs.Game.{gameOf}
 use Rattle.text.specs.Text.{TextFits}
 use Rattle.report.specs.Whole.{BasesFit, valuesText, verdictText, reportText}
 use Rattle.text.proofs.Puts.{room-first, room-then, put-then}
@@ -16,7 +15,7 @@ values-part c = valuesText (c .bases .result) (c .before .before .before .before
 abbrev verdict-part : tie.After-bases → List ℕ
 verdict-part c =
     let a = c .before .before .before .before .before .before .args in
-    verdictText (gameOf (a .game .now)) (c .bases .result .values) (a .verdict) (a .moves1 .now) (a .moves2 .now)
+    verdictText (a .numbers .now) (a .pair .counts .sets) (c .bases .result .values) (a .verdict) (a .moves1 .now) (a .moves2 .now)
 
 room : (c : tie.After-bases) → TextFits 0 (values-part c ++ verdict-part c) (c .before .before .before .before .before .before .args .out .now)
 unfolding reportText
@@ -32,7 +31,7 @@ put-verdict-requires : tie.Need-put-verdict-requires
 put-verdict-requires c κs =
     let s = c .before .before .before .before .before .before .before .before .before .before .before in
     let d = c .before .before .before .before .before in
-    (s .pre .0 .sets, s .pre .0 .long1, s .pre .0 .long2, fit d .values, room-then (c .before .before .before .put-values .ensures) (verdict-part d) (room d))
+    (s .pre .0 .long, s .pre .0 .long1, s .pre .0 .long2, fit d .values, room-then (c .before .before .before .put-values .ensures) (verdict-part d) (room d))
 
 returns : tie.Need-returns
 unfolding reportText

@@ -1,42 +1,38 @@
--- A call for the empty sequence, whose sets may begin anywhere, stores every worth.
-use mathlib.Core.Path.{sym, _∙_}
+-- A call for the empty sequence gives the best value, and leaves every place right.
 use native.Mathlib.Omega.{arith}
 use borrow.Author.Needs.{needs}
-use lib.Seq.{length-take-le}
 use mir.Syntax.{w64}
 use mir.Facts.{toZ-ofZ}
-use Rattle.responses.proofs.Everywhere.{stored-all}
+use Rattle.model.specs.Game.{playerOf}
+use Rattle.responses.proofs.Everywhere.{worths-given}
+use Rattle.responses.proofs.SequencesAt.{some-sequence}
+use Rattle.responses.proofs.Sides.{heads-is, sets-counted, few-sequences}
 use Rattle.responses.proofs.worths.worths.Statement.{statement}
 use Rattle.responses.proofs.worths.worths.Tie as tie
 
-slice-aggregate-sequence-worth : tie.Need-slice-aggregate-sequence-worth
-slice-aggregate-sequence-worth c = sym (length-take-le _ _ (c .before .before .before .before .before .before .before .pre .0))
-
-slice-aggregate-sequence-worth-2 : tie.Need-slice-aggregate-sequence-worth-2
-slice-aggregate-sequence-worth-2 c = sym (length-take-le _ _ (c .before .before .before .before .before .before .before .before .pre .1))
-
 sequence-worth-requires : tie.Need-sequence-worth-requires
 sequence-worth-requires c κs =
-    let s = c .before .before .before .before .before .before .before .before .before in
-    let R = s .pre .3 in
-    (R, record { from = λ h l e. omega arith }, R .some-sequence, omega arith, omega (arith, length-take-le (s .args .sequences) (s .args .head .now) (s .pre .0), s .pre .2))
+    let s = c .before .before .before in
+    let Q = s .pre .0 in
+    let p = playerOf (s .args .player) in
+    let L = Q .held .loaded in
+    record {
+      game = Q .game;
+      player = p;
+      plan = Q .plan;
+      ready = record { counts = s .args .counts; sums-held = Q .held; heads-are = heads-is (s .args .counts) p (c .before .side .ensures); sets-are = sets-counted (Q .game) (L .counts-are) };
+      room = omega (arith, few-sequences (Q .game) (L .rules) (L .limits) p, s .pre .1);
+      is-sequence = some-sequence (Q .game) p;
+    }
 
 returns : tie.Need-returns
-returns c =
-    let s = c .before .before .before .before .before .before .before .before .before .before .before in
-    let a = s .args in
+returns c g y H =
+    let s = c .before .before .before .before .before in
+    let p = playerOf (s .args .player) in
     let call = c .before .sequence-worth in
-    let done = call .ensures (a .nodes) (omega arith) in (
-      toZ-ofZ {w = w64} {z = call .result} (record { sfits = call .ok }) ∙ done .value,
-      stored-all (a .sequences) (a .nodes) (s .pre .3) (length-take-le (a .sequences) (a .head .now) (s .pre .0)) (s .pre .2) (call .kept .1 .1 .1 .1 .1 .1 .1 .0) done,
-    )
+    let done = call .ensures g p y (record { counts = s .args .counts; sums-held = H; heads-are = heads-is (s .args .counts) p (c .before .before .before .side .ensures); sets-are = sets-counted g (H .loaded .counts-are) }) (some-sequence g p) in
+    rw (toZ-ofZ {w = w64} {z = call .result} (record { sfits = call .ok })) (worths-given (H .loaded) done (omega (arith, call .kept .1 .1 .0, s .pre .1)))
 
 pub worths-spec : {M : Type 1} → statement M
 worths-spec =
-    tie.close
-    (tie.spec
-    slice-aggregate-sequence-worth
-    slice-aggregate-sequence-worth-2
-    sequence-worth-requires
-    (λ c. search needs)
-    returns)
+    tie.close (tie.spec (λ c κs. search needs) sequence-worth-requires (λ c. search needs) returns)

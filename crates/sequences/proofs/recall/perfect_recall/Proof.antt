@@ -1,55 +1,45 @@
--- Both tables hold what they were filled with, so each player's answer is that of his tests, and check 13 is the tests of both.
+-- The invariant: each node below `n` passes its test. A node that fails, or the end of the nodes, closes a return.
+use Prim.Native.Nat.{_-_, _≤_}
+use mathlib.Core.Path.{_≡_}
 use native.Mathlib.Omega.{arith}
-use borrow.Author.Needs.{needs}
-use Rattle.algebra.proofs.Fillings.{filled}
-use Rattle.sequences.proofs.Recalls.{recall-broken, recall-second}
+use Rattle.model.specs.Game.{Game}
+use Rattle.checks.proofs.Passes.{Passed, passed-none, passed-more, passed-not, passed-all}
+use Rattle.sequences.specs.Recall.{OwnFilled, recallTest}
+use Rattle.sequences.proofs.Recalls.{recall-by-tests}
 use Rattle.sequences.proofs.recall.perfect_recall.Statement.{statement}
 use Rattle.sequences.proofs.recall.perfect_recall.Tie as tie
 
-player-recalls-requires : tie.Need-player-recalls-requires
-player-recalls-requires c κs =
-    let q = c .before .before .before .before .before .before .before .before .before .before .pre in (
-      q .0,
-      q .1,
-      omega arith,
-      omega (arith, q .0 .nodes-is, q .1 .few-nodes),
-      filled _ (c .before .before .before .before .before .before .before .first-sequences .ensures .0) (omega (arith, q .1 .few-sets)),
-      filled _ (c .before .before .before .before .first-nodes .ensures) (omega (arith, q .1 .few-sets)),
-    )
+abbrev Inv-loop : tie.InvT-loop
+Inv-loop numbers nodes n₀ n = (n ≤ nodes) × ((g : Game) → nodes ≡ g .nodes → OwnFilled g numbers → Passed (recallTest g) (g .nodes) n)
 
--- the second time the array has been filled already
-player-recalls-requires-2 : tie.Need-player-recalls-requires-2
-player-recalls-requires-2 c κs =
-    let q = player-recalls-requires (c .before .before .before .before .before .before .before) κs in
-    (q .0, q .1, omega arith, omega (arith, q .3, c .before .before .before .before .before .before .player-recalls .kept), q .4, q .5)
+abbrev μ-loop : tie.MeasureT-loop
+μ-loop numbers nodes n₀ n = nodes - n
 
-returns : tie.Need-returns
-returns c =
-    let s = c .before .before .before .before .before .before .before .before .before .before .before .before .before .before in
-    recall-broken _ (s .pre .1) (c .before .before .before .player-recalls .ensures) (c .enum-told2 .given .1)
+recalls-requires : tie.Need-recalls-requires Inv-loop μ-loop
+recalls-requires c κs = let q = c .before .before .before .pre in (q .0, omega (arith, q .1), q .2)
 
-returns-2 : tie.Need-returns-2
-returns-2 c =
-    let s = c .before .before .before .before .before .before .before .before .before .before .before .before .before .before .before .before .before .before .before in
-    recall-second _ (s .pre .1) (c .before .before .before .before .before .before .before .before .player-recalls .ensures) (c .before .before .before .before .before .enum-told .given .1) (c .before .player-recalls2 .ensures)
+loop-again : tie.Need-loop-again Inv-loop μ-loop
+loop-again c = (
+  omega arith,
+  λ g e F. passed-more _ _ _ _ (c .before .before .before .loop .inv .1 g e F) (omega (arith, e)) (c .before .recalls .ensures g (omega (arith, e)) F) (c .if1 .taken),
+)
+
+returns : tie.Need-returns Inv-loop μ-loop
+returns c g e F = rw (recall-by-tests g (F .rooted)) (passed-not _ _ _ _ _ (omega (arith, e)) (c .before .recalls .ensures g (omega (arith, e)) F) (c .if1 .left))
+
+returns-2 : tie.Need-returns-2 Inv-loop μ-loop
+returns-2 c g e F = rw (recall-by-tests g (F .rooted)) (passed-all _ _ _ _ (c .before .loop .inv .1 g e F) (omega (arith, e)))
 
 pub perfect-recall-spec : {M : Type 1} → statement M
 perfect-recall-spec =
     tie.close
     (tie.spec
-    (λ c. search needs)
-    (λ c κs. search needs)
-    (λ c. search needs)
-    (λ c κs. search needs)
-    (λ c. search needs)
-    (λ c. search needs)
-    (λ c. search needs)
-    player-recalls-requires
-    (λ c. search needs)
-    (λ c. search needs)
+    Inv-loop
+    μ-loop
+    (λ c. (omega arith, λ g e F. passed-none _ _))
+    recalls-requires
+    (λ c. omega arith)
+    (λ c. omega arith)
+    loop-again
     returns
-    (λ c. search needs)
-    (λ c. search needs)
-    (λ c. search needs)
-    player-recalls-requires-2
     returns-2)

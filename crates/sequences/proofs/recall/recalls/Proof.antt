@@ -1,36 +1,43 @@
--- Where the player moves the numbers at the node and at its set's first node are compared; elsewhere the test passes.
-use mathlib.Core.Path.{sym, _∙_}
+-- At a decision the own number there is compared with that of the sequence that leads to its set; elsewhere the test passes.
+use Prim.Native.Nat.{_<_}
+use mathlib.Core.Path.{_∙_}
 use native.Mathlib.Omega.{arith}
 use borrow.Author.Needs.{needs}
-use Rattle.model.specs.Game.{gameOf, playerOf}
-use Rattle.sequences.proofs.Own.{no-decision, own-decision, other-decision}
-use Rattle.sequences.proofs.Recalls.{Found, found, recall-none, recall-stored}
+use Rattle.model.specs.Game.{Game, playerOf}
+use Rattle.sequences.specs.Recall.{OwnFilled}
+use Rattle.sequences.proofs.Nodes.{Decision, kind-read, decision-read, bit-small}
+use Rattle.sequences.proofs.Leading.{own-read}
+use Rattle.sequences.proofs.Recalls.{recall-none, recall-here}
+use Rattle.sequences.proofs.Stored.{own-range}
 use Rattle.sequences.proofs.recall.recalls.Statement.{statement}
 use Rattle.sequences.proofs.recall.recalls.Tie as tie
 
--- the table has the set's first node
-start : (c : tie.Then1) → let s = c .before .before .before .before .before .before in Found (gameOf (s .args .bytes .now)) (s .args .n) (c .before .before .read .result .payload .set) (s .args .first .now)
-start c =
+-- the node is a decision of the set that is read
+decision : (c : tie.After-number2) (g : Game) → let s = c .before .before .before .before in s .args .n < g .nodes → OwnFilled g (s .args .numbers .now) → Decision g (s .args .n) (c .number2 .result)
+decision c g l F = decision-read (F .decoded) l (F .rooted) (c .before .before .number .ensures .0) (c .before .if1 .taken) (c .number2 .ensures .0)
+
+own-section-requires : tie.Need-own-section-requires
+own-section-requires c κs =
+    let q = c .before .before .before .before .before .pre in
+    bit-small (q .2 .decoded) (decision (c .before) (q .0) (q .1) (q .2) .below) (c .number3 .ensures .0)
+
+number-requires-4 : tie.Need-number-requires-4
+number-requires-4 c κs =
     let q = c .before .before .before .before .before .before .pre in
-    let node = c .before .before .read .ensures in
-    found _ (q .1) _ _ _ (q .2) (sym (node .kind) ∙ c .if1 .taken) (q .4) (node .set (c .if1 .taken))
+    omega (arith, c .own-section .ensures, own-range (playerOf (c .before .number3 .result)), q .1, q .2 .decoded .room, q .2 .decoded .few-nodes)
+
+lead-of-requires : tie.Need-lead-of-requires
+lead-of-requires c κs =
+    let q = c .before .before .before .before .before .before .before .pre in
+    (q .0, decision (c .before .before .before) (q .0) (q .1) (q .2) .below, q .2)
 
 returns : tie.Need-returns
-returns c =
-    let s = c .before .before .before .before .before .before .before .before .before .before .before .before .before in
-    let d = c .before .before .before .before .before .before .before in
-    let F = start d in
-    let e = c .before .before .index .ensures in
-    let moves = own-decision (d .before .before .read .ensures) (s .args .player) (d .if1 .taken) (c .before .before .before .before .before .before .read2 .ensures) (c .before .before .before .before .if2 .taken) in
-    recall-stored (gameOf (s .args .bytes .now)) (playerOf (s .args .player)) (s .args .own .now) (s .args .n) (c .before .before .index .result) (s .pre .5) (s .pre .2) (omega (arith, F .node)) (e ∙ F .is) moves
+returns c g l F =
+    let D = decision (c .before .before .before .before) g l F in
+    recall-here g D (own-read F (D .below) (c .before .before .before .number3 .ensures .0) (c .before .before .own-section .ensures) l (c .before .number4 .ensures .0)) (c .lead-of .ensures .1 g (D .below) F)
 
 returns-2 : tie.Need-returns-2
-returns-2 c =
-    let s = c .before .before .before .before .before .before .before .before .before in
-    recall-none _ _ _ (other-decision (c .before .before .before .before .before .read .ensures) (s .args .player) (c .before .before .before .if1 .taken) (c .before .before .read2 .ensures) (s .pre .3) (c .if2 .left))
-
-returns-3 : tie.Need-returns-3
-returns-3 c = recall-none _ _ _ (no-decision (c .before .before .read .ensures) (c .before .before .before .before .before .before .args .player) (c .if1 .left))
+returns-2 c g l F = recall-none g _ (λ i. c .if1 .left (kind-read (F .decoded) l (c .before .number .ensures .0) ∙ i))
 
 pub recalls-spec : {M : Type 1} → statement M
 recalls-spec =
@@ -38,13 +45,9 @@ recalls-spec =
     (tie.spec
     (λ c κs. search needs)
     (λ c κs. search needs)
-    (λ c. search needs)
-    (λ c. start (c .before .before .before .before) .long)
     (λ c κs. search needs)
-    (λ c. search needs)
-    (λ c. search needs)
-    (λ c. omega (arith, start (c .before .before .before .before .before .before) .node, c .before .before .before .before .before .before .before .before .before .before .before .before .pre .1 .few-nodes))
-    (λ c. omega (arith, start (c .before .before .before .before .before .before .before) .node, c .before .before .before .before .before .before .before .before .before .before .before .before .before .pre .5 .long))
+    own-section-requires
+    number-requires-4
+    lead-of-requires
     returns
-    returns-2
-    returns-3)
+    returns-2)

@@ -1,27 +1,29 @@
--- The invariant: the first `i` places have the value, and the others what they had.
-use Prim.Native.Nat.{_-_, _≤_}
+-- The invariant: the first `i` places have the value, and nothing else has changed.
+use Prim.Native.Nat.{_+_, _-_, _≤_}
 use mathlib.Core.Path.{_≡_, refl}
 use native.Mathlib.Omega.{arith}
-use borrow.Author.Needs.{needs}
-use lib.ListN.{length}
-use Rattle.algebra.specs.Arrays.{over}
-use Rattle.algebra.proofs.Fillings.{over-none, over-more}
+use Rattle.algebra.specs.Sections.{Held, Apart}
+use Rattle.algebra.proofs.Sections.{held-none, held-more, apart-none, apart-set}
 use Rattle.sequences.proofs.sets.fill.Statement.{statement}
 use Rattle.sequences.proofs.sets.fill.Tie as tie
 
 abbrev Inv-loop : tie.InvT-loop
-Inv-loop out₀ count value i₀ out i = (i ≤ count) × (out ≡ over (λ k. value) i out₀) × (length out ≡ length out₀)
+Inv-loop numbers₀ section count value i₀ numbers i = (i ≤ count) × Held section (λ k. value) i numbers × Apart section (section + count) numbers₀ numbers
 
 abbrev μ-loop : tie.MeasureT-loop
-μ-loop out₀ count value i₀ out i = count - i
+μ-loop numbers₀ section count value i₀ numbers i = count - i
 
 loop-again : tie.Need-loop-again Inv-loop μ-loop
-loop-again c = (omega arith, rw (c .before .loop .inv .1) (over-more 0 _ _ _ _ (omega arith) refl), search needs)
+loop-again c =
+    let inv = c .before .before .before .before .before .loop .inv in
+    let put = c .before .before .put .ensures in
+    (omega arith, held-more _ (inv .1) (omega (arith, inv .2 .long)) put refl, apart-set _ _ (inv .2) put (omega arith) (omega arith))
 
 returns : tie.Need-returns Inv-loop μ-loop
 returns c =
-    let e : c .before .loop .i ≡ c .before .before .args .count = omega arith in
-    rw e at (c .before .loop .inv .1)
+    let inv = c .before .loop .inv in
+    let e : c .before .loop .i ≡ c .before .before .before .args .count = omega arith in
+    (rw e at (inv .1), inv .2)
 
 pub fill-spec : {M : Type 1} → statement M
 fill-spec =
@@ -29,11 +31,10 @@ fill-spec =
     (tie.spec
     Inv-loop
     μ-loop
-    (λ c. (omega arith, over-none 0 _ _, refl))
-    (λ c. search needs)
-    (λ c. search needs)
-    (λ c. search needs)
-    (λ c. search needs)
+    (λ c. (omega arith, held-none _ (omega arith), apart-none))
+    (λ c κs. (omega (arith, c .before .before .loop .inv .2 .long), omega arith))
+    (λ c. omega arith)
+    (λ c. omega arith)
     loop-again
-    (λ c. search needs)
+    (λ c. c .before .loop .inv .2 .long)
     returns)

@@ -5,15 +5,13 @@ use Rattle.tree.proofs.children.moves_lead_on.Statement.{statement}
 use Rattle.tree.proofs.children.moves_lead_on.Tie as tie
 
 returns : tie.Need-returns
-returns c = moves-broken _ (c .before .before .mark-moves .ensures .0) (c .enum-told2 .given .1)
-
-all-complete-requires : tie.Need-all-complete-requires
-all-complete-requires c κs =
-    let pre = c .before .before .before .before .before .before .pre in
-    (pre .0, pre .1, c .before .before .before .mark-moves .ensures .1 (c .before .enum-told .given .1))
+returns c = λ g t. moves-broken g (c .before .before .mark-moves .ensures g t .0) (c .enum-told2 .given .1)
 
 returns-2 : tie.Need-returns-2
-returns-2 c = moves-second _ (c .before .before .before .before .mark-moves .ensures .0) (c .before .before .enum-told .given .1) (c .all-complete .ensures)
+returns-2 c = λ g t.
+    let marked = c .before .before .before .before .mark-moves .ensures g t in
+    let fine = c .before .before .enum-told .given .1 in
+    moves-second g (marked .0) fine (c .all-complete .ensures g t (marked .1 fine))
 
 pub moves-lead-on-spec : {M : Type 1} → statement M
 moves-lead-on-spec =
@@ -23,5 +21,5 @@ moves-lead-on-spec =
     (λ c. search needs)
     (λ c. search needs)
     returns
-    all-complete-requires
+    (λ c κs. search needs)
     returns-2)

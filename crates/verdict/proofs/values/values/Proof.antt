@@ -9,24 +9,25 @@ use Rattle.verdict.proofs.values.values.Tie as tie
 
 refused : tie.Need-returns
 refused c =
-    let a = c .before .before .before .before .before .before .before .before .before .before .args in
+    let a = c .before .before .before .before .before .before .before .before .before .before .before .before .before .before .args in
     let g = a .game .now in
     let p = a .plan .now in
-    let s = evaluation-refused-with g p (c .before .before .before .before .before .evaluate .ensures .0) (c .before .enum-told .given .1) (c .refusal .ensures) in
+    let s = evaluation-refused-with g p (c .before .before .before .before .before .before .before .evaluate .ensures) (c .before .enum-told .given .1) (c .refusal .ensures) in
     values-refused g p (s .0) (s .1)
 
 given : tie.Need-returns-2
 given c =
-    let s = c .before .before in
-    let a = s .before .before .before .before .before .before .before .before .before .args in
-    let v = evaluation-opened (a .game .now) (a .plan .now) (s .before .before .before .before .evaluate .ensures) (s .evaluated .given .1) in
-    let values = s .evaluated .given .0 .1 .0 in
+    let a = c .before .before .before .before .before .before .before .before .before .before .before .before .before .before .before .args in
+    let v = evaluation-opened (a .game .now) (a .plan .now) (c .before .before .before .before .before .before .before .before .evaluate .ensures) (c .before .before .evaluated .given .1) in
+    let values = c .before .before .evaluated .given .0 .1 .0 in
     values-given (a .game .now) (a .plan .now) _ (v .opened) (v .values) (toZ-ofZ {w = w64} {z = values .value1} (search needs)) (toZ-ofZ {w = w64} {z = values .value2} (search needs)) (toZ-ofZ {w = w64} {z = values .best1} (search needs)) (toZ-ofZ {w = w64} {z = values .best2} (search needs))
 
 pub values-spec : {M : Type 1} → statement M
 values-spec =
     tie.close
     (tie.spec
+    (λ c. search needs)
+    (λ c. search needs)
     (λ c. search needs)
     (λ c. search needs)
     (λ c κs. search needs)

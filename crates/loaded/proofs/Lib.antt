@@ -1,0 +1,11 @@
+pub mod Gathered
+pub mod LeafColumns
+pub mod LeafSums
+pub mod Owners
+pub mod Rooted
+pub mod Views
+pub mod Weights
+pub mod Decoded
+pub mod NodeReads
+pub mod Chains
+pub mod SetOrder

@@ -1,0 +1,7 @@
+pub mod Sections
+pub mod Leaves
+pub mod Sets
+pub mod Counts
+pub mod Loaded
+pub mod Rooted
+pub mod Weights

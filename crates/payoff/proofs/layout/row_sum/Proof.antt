@@ -1,0 +1,16 @@
+-- The row's leaves are the sorted ones from where it begins to where the next one does.
+use borrow.Author.Needs.{needs}
+use mathlib.Core.Path.{_∙_}
+use mir.Syntax.{w64}
+use mir.Facts.{toZ-ofZ}
+use Rattle.payoff.proofs.layout.row_sum.Statement.{statement}
+use Rattle.payoff.proofs.layout.row_sum.Tie as tie
+
+leaf-sum-requires : tie.Need-leaf-sum-requires
+leaf-sum-requires c κs = rw (c .before .item .ensures .0, c .item2 .ensures .0) (c .before .before .before .before .before .pre .summable)
+
+returns : tie.Need-returns
+returns c = toZ-ofZ {w = w64} {z = c .leaf-sum .result} (record { sfits = c .leaf-sum .ok }) ∙ (rw (c .before .before .item .ensures .0, c .before .item2 .ensures .0) at (c .leaf-sum .ensures))
+
+pub row-sum-spec : {M : Type 1} → statement M
+row-sum-spec = tie.close (tie.spec (λ c κs. search needs) (λ c. search needs) (λ c κs. search needs) leaf-sum-requires returns)

@@ -1,0 +1,86 @@
+//! Plain Rust by the library's method and by a free choice of method against the library, on
+//! drawn pairs, damaged ones among them.
+
+use desk::drawn::draw;
+use desk::form::{TableBuffers, Values};
+use desk::samples::Pair;
+use desk::variants::{self, Variant, COUNT, NAMES};
+use desk::verdict::VerdictBuffers;
+use desk::{PlanBuffers, Refusal};
+use generator::rng::Rng;
+use std::fmt::Debug;
+
+/// How many drawn pairs are tried.
+const PAIRS: usize = 1_500;
+
+/// Rooms in which every result fits, and few.
+const ROOMS: [usize; 2] = [4_095, 2];
+
+type Variants = [Box<dyn Variant>; COUNT];
+
+/// All variants of a call must give one answer, and leave the same in what is lent to them.
+fn compare<T: Clone + PartialEq + Debug>(
+    variants: &mut Variants,
+    lent: &T,
+    call: impl Fn(&mut dyn Variant, &mut T) -> Result<(), Refusal>,
+) -> Result<(), Refusal> {
+    let answers = variants.each_mut().map(|variant| {
+        let mut lent = lent.clone();
+        (call(variant.as_mut(), &mut lent), lent)
+    });
+    let [library, others @ ..] = &answers;
+    for (other, name) in others.iter().zip(&NAMES[1..]) {
+        assert!(other == library, "{name}: {:?}", other.0);
+    }
+    library.0
+}
+
+fn untouched(room: usize) -> (PlanBuffers, TableBuffers, VerdictBuffers) {
+    let plan = PlanBuffers::with_room(room);
+    let table = TableBuffers::with_room(room);
+    (plan, table, VerdictBuffers::with_room(room))
+}
+
+/// Compares every call on a pair; the refusal of the verdict with room enough, or 0.
+fn compare_pair(variants: &mut Variants, Pair { game, plan }: &Pair) -> usize {
+    let counts = variants.each_mut().map(|variant| variant.check_game(game));
+    assert_eq!(counts, [counts[0]; COUNT]);
+    let untouched_values = Values {
+        values: [7; 2],
+        ..Values::default()
+    };
+    let valued = compare(variants, &untouched_values, |variant, out| {
+        variant.values(game, plan, out)
+    });
+    for room in ROOMS {
+        let (fields, table, verdict) = untouched(room);
+        let listed = compare(variants, &table, |variant, out| {
+            variant.payoff_table(game, out)
+        });
+        assert!(listed == counts[0].map(|_| ()) || listed == Err(18));
+        let read = compare(variants, &fields, |variant, out| {
+            variant.plan_fields(game, plan, out)
+        });
+        let judged = compare(variants, &verdict, |variant, out| {
+            variant.verdict(game, plan, out)
+        });
+        for answer in [read, judged] {
+            assert!(answer == valued || answer == Err(18));
+        }
+    }
+    valued.err().unwrap_or(0).into()
+}
+
+#[test]
+fn variants_agree_on_drawn_pairs() {
+    let mut rng = Rng::new(99);
+    let mut variants = variants::all();
+    let mut met = [0; 17];
+    while met.iter().sum::<usize>() < PAIRS {
+        for pair in draw(&mut rng).unwrap() {
+            met[compare_pair(&mut variants, &pair)] += 1;
+        }
+    }
+    assert!(met.iter().all(|&count| count > 5), "{met:?}");
+    assert!(met[1..].iter().sum::<usize>() > PAIRS / 3, "{met:?}");
+}
