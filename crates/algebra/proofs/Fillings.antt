@@ -9,18 +9,13 @@ use lib.ListN.{length, getD, drop, set, replicate, length-set, length-replicate,
 use lib.Seq.{ext-getD, getD-append-add, getD-drop, getD-set-same, getD-set-other}
 use Rattle.algebra.specs.Bounded.{listTo}
 use Rattle.algebra.specs.Arrays.{placed, over, Holds}
-use Rattle.algebra.proofs.Lists.{listTo-suc, listTo-cong, length-listTo, listTo-at}
+use Rattle.algebra.proofs.Lists.{listTo-suc, length-listTo, listTo-at}
 use Rattle.algebra.proofs.Arrays.{length-placed, placed-first, placed-more}
 
 -- an array filled from the front has its entries from place 0 on
 pub over-placed : {A : Type 0} (f : ℕ → A) (n : ℕ) (l : List A) → over f n l ≡ placed 0 (listTo n f) l
 unfolding over
 over-placed f n l = sym (placed-first (listTo n f) l ∙ ap (λ (k : ℕ). listTo n f ++ drop k l) (length-listTo n f))
-
--- equal entries
-pub over-cong : {A : Type 0} (f h : ℕ → A) (n : ℕ) (l : List A) → ((i : ℕ) → i < n → f i ≡ h i) → over f n l ≡ over h n l
-unfolding over
-over-cong {A = A} f h n l e = ap (λ (k : List A). k ++ drop n l) (listTo-cong n f h e)
 
 -- Arrays of any element; d stands for an entry past the end.
 module _ {A : Type 0} (d : A) where
@@ -62,13 +57,6 @@ module _ {A : Type 0} (d : A) where
       let size : 0 + length (listTo n f) ≡ n = omega (arith, length-listTo n f) in
       let one : set (placed 0 (listTo n f) l) n x ≡ placed 0 (listTo n f ++ x ∷ []) l = rw size at (placed-more 0 (listTo n f) l x (omega (arith, size))) in
       rw (over-placed f n l, one, e, over-placed f (n + 1) l, add-one, listTo-suc)
-
-  -- filled anew
-  pub over-again : (f h : ℕ → A) (n : ℕ) (l : List A) → n ≤ length l → over h n (over f n l) ≡ over h n l
-  over-again f h n l b =
-      let k = over f n l in
-      let e = length-over f n l b in
-      over-is h n l (over h n k) b (length-over h n k (omega arith) ∙ e) (over-at h n k) (λ i v. over-past h n k i v ∙ over-past f n l i v)
 
 -- the places below n are filled, on the way to a bound
 abbrev pub Filling : {A : Type 0} → (ℕ → A) → (bound : ℕ) → (before : List A) → (n : ℕ) → (after : List A) → Type 0
@@ -133,10 +121,6 @@ module _ {A : Type 0} {d : A} where
   -- and one that has them all is filled
   pub holds-from-all : {f : ℕ → A} {n : ℕ} {l k : List A} → HoldsFrom d f 0 n l k → n ≤ length l → k ≡ over f n l
   holds-from-all {f} {n} {l} {k} g b = over-is d f n l k b (g .long) (λ i v. g .at i (omega arith) v) (g .past)
-
--- one of the filled places given anew, where the others are as before
-pub over-set : {A : Type 0} (d : A) (f h : ℕ → A) (n : ℕ) (l : List A) (s : ℕ) (x : A) → n ≤ length l → s < n → x ≡ h s → ((i : ℕ) → ¬ (i ≡ s) → f i ≡ h i) → set (over f n l) s x ≡ over h n l
-over-set d f h n l s x b v e others = holds-from-all {d = d} (holds-from-set s x (holds-from-over f n l (over f n l) b refl) b v e (λ i a u q. (omega arith, others i q))) b
 
 -- an array of numbers that is filled holds them
 pub filled : {f : ℕ → ℕ} {n : ℕ} {k : List ℕ} (l : List ℕ) → k ≡ over f n l → n ≤ length l → Holds f n k

@@ -1,17 +1,27 @@
 -- Lists in sections: a store makes one section longer by a place and leaves every other as it was.
-use Prim.Native.Nat.{ℕ, _+_, _≤_, _<_}
+use Prim.Native.Nat.{ℕ, _+_, _-_, _≤_, _<_}
 use mathlib.Core.Path.{_≡_, refl, _∙_}
 use mathlib.Core.List.{List}
 use native.Mathlib.Omega.{arith}
 use native.Mathlib.Decide.{ℕ-discrete}
-use lib.ListN.{length, getD, set, length-set, length-drop}
-use lib.Seq.{getD-drop, getD-set-same, getD-set-other}
-use Rattle.algebra.specs.Arrays.{Holds}
+use lib.ListN.{length, getD, take, drop, set, length-set, length-drop}
+use lib.Seq.{getD-drop, take-all, getD-set-same, getD-set-other}
 use Rattle.algebra.specs.Sections.{section, Held, Apart}
 
--- what a section of numbers holds, as a list of its own
-pub held-section : {from : ℕ} {f : ℕ → ℕ} {n : ℕ} {l : List ℕ} → Held from f n l → Holds f n (section from l)
-held-section {from} {l = l} h = record { long = omega (arith, h .long, length-drop from l); at = λ i v. getD-drop from l i 0 ∙ h .at 0 i v }
+-- A section as a list of its own.
+module _ {A : Type 0} (from : ℕ) (l : List A) where
+  pub section-long : length (section from l) ≡ length l - from
+  unfolding section
+  section-long = length-drop from l
+
+  pub section-at : (i : ℕ) (d : A) → getD (section from l) i d ≡ getD l (from + i) d
+  unfolding section
+  section-at i d = getD-drop from l i d
+
+  -- as a part that is lent
+  pub section-part : take (length l - from) (drop from l) ≡ section from l
+  unfolding section
+  section-part = take-all (length l - from) (drop from l) (omega (arith, length-drop from l))
 
 module _ {A : Type 0} where
   -- nothing is filled yet
@@ -57,10 +67,6 @@ module _ {A : Type 0} where
   -- a section that ends before the change
   pub held-before : {from : ℕ} {f : ℕ → A} {n low high : ℕ} {l k : List A} → Held from f n l → Apart low high l k → from + n ≤ low → Held from f n k
   held-before h a b = held-apart h a (λ i v c d. omega arith)
-
-  -- and one that begins after it
-  pub held-after : {from : ℕ} {f : ℕ → A} {n low high : ℕ} {l k : List A} → Held from f n l → Apart low high l k → high ≤ from → Held from f n k
-  held-after h a b = held-apart h a (λ i v c d. omega arith)
 
   -- equal functions
   pub held-as : {from : ℕ} {f : ℕ → A} {n : ℕ} {l : List A} (h : ℕ → A) → Held from f n l → ((i : ℕ) → i < n → f i ≡ h i) → Held from h n l

@@ -5,7 +5,7 @@ use mathlib.Core.List.{List}
 use lib.ListN.{length, drop, getD}
 
 -- the section that begins at a place: all that stands from there on
-abbrev pub section : {A : Type 0} → (from : ℕ) → List A → List A
+unfoldable pub section : {A : Type 0} → (from : ℕ) → List A → List A
 section from l = drop from l
 
 -- the first n places of the section that begins at `from` hold f 0, .., f (n - 1)

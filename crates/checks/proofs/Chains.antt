@@ -1,15 +1,15 @@
 -- Chains of checks, of any shape: which refusal is given.
 -- `Left whole rest a`: of the rows `whole`, those before `rest` have passed.
-use Prim.Native.Nat.{ℕ, zero, suc, _<_}
+use Prim.Native.Nat.{ℕ, zero, suc}
 use mathlib.Core.Path.{_≡_, refl, sym, ap, _∙_}
 use mathlib.Core.Bool.{Bool, true, false, not, _&&_, cond}
 use mathlib.Core.List.{List, [], _∷_, _++_}
 use native.Mathlib.Omega.{arith}
-use lib.Dec.{T, eqb, ltb, eqb→eq, ltb→lt, T-not}
+use lib.Dec.{T, eqb, eqb→eq, T-not}
 use mir.Facts.{and-yes}
 use Rattle.algebra.proofs.Tests.{eqb-make, cond-no}
 use Rattle.model.specs.Rows.{Row, Rows, row, of, refusal}
-use Rattle.model.specs.Call.{Answer, given, refused, answerOf, Buffers, lengths, longEnough, afterAll, Lent, Call, Outcome, outcome, roomRows, allRows, callRefusal, run}
+use Rattle.model.specs.Call.{given, refused, Buffers, lengths, longEnough, afterAll, Lent, Call, Outcome, outcome, roomRows, allRows, callRefusal, run}
 use Rattle.model.proofs.Call.{all-kept}
 use Rattle.model.proofs.Rows.{named, named-of}
 use Rattle.checks.specs.declared.Checked.{Checked}

@@ -3,10 +3,9 @@ use Prim.Native.Nat.{ℕ}
 use mathlib.Core.Path.{_≡_, sym, _∙_}
 use mathlib.Core.List.{List, _++_}
 use Rattle.model.specs.Checks.{gameRefusal, gameRows, pairRows, pairRefusal}
-use Rattle.model.specs.PlanChecks.{Files}
 use Rattle.model.specs.Rows.{Rows, of, refusal}
 use Rattle.model.proofs.Rows.{named-of}
-use Rattle.model.proofs.Checks.{game-refusal, game-named, pair-refusal, pair-named}
+use Rattle.model.proofs.Checks.{game-refusal, game-named, pair-refusal}
 use Rattle.checks.proofs.Chains.{Left, Refuses, passes-all, stops-in, refusal-of, refuses-of}
 
 -- a game file's refusal

@@ -1,3 +1,3 @@
-mod Rows
+mod Filled
 mod Entries
 mod Nodes

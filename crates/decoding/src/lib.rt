@@ -5,7 +5,7 @@ ghost use Prim.Native.Nat.{_≤_, _<_};
 ghost use lib.ListN.{length};
 ghost use Rattle.model.specs.Game.{gameOf};
 ghost use Rattle.records.specs.Records.{headerOf};
-ghost use Rattle.loaded.specs.Sections.{numbersRoom, payoffsRoom};
+ghost use Rattle.loaded.specs.Sections.{sectionRoom, numbersRoom, payoffsRoom};
 ghost use Rattle.decoding.specs.Puts.{entryPut, nodePut, payloadOfKind, payoffsPut, leafPut, nextPlace};
 ghost use Rattle.decoding.specs.Tests.{wellFormed};
 ghost use Rattle.decoding.specs.Decoding.{SetsLoaded, NodesLoaded};
@@ -24,7 +24,7 @@ pub enum NodesAnswer {
 
 // Puts the entry of set `h`.
 fn put_entry(entry: SetEntry, h: usize, numbers: &mut [u16])
-    requires { ⌜ (entry .player < 65536) × (entry .moves < 65536) × (h < 4096) × (numbersRoom ≤ length (now numbers)) ⌝ }
+    requires { ⌜ (entry .player < 65536) × (entry .moves < 65536) × (h < sectionRoom) × (numbersRoom ≤ length (now numbers)) ⌝ }
     ensures { λ _. ⌜ now (numbers .exit) ≡ entryPut entry h (now (numbers .entry)) ⌝ }
 {
     let player = entry.player as usize;
@@ -74,7 +74,7 @@ fn payload_number(node: NodeRecord) -> usize
 
 // Puts the record of node `n`, without the payoffs.
 fn put_node(node: NodeRecord, n: usize, numbers: &mut [u16])
-    requires { ⌜ (node .kind < 65536) × (node .parent < 65536) × (node .place < 65536) × (node .weight < 65536) × (payloadOfKind node < 65536) × (n < 4096) × (numbersRoom ≤ length (now numbers)) ⌝ }
+    requires { ⌜ (node .kind < 65536) × (node .parent < 65536) × (node .place < 65536) × (node .weight < 65536) × (payloadOfKind node < 65536) × (n < sectionRoom) × (numbersRoom ≤ length (now numbers)) ⌝ }
     ensures { λ _. ⌜ now (numbers .exit) ≡ nodePut node n (now (numbers .entry)) ⌝ }
 {
     let kind = node.kind as usize;
@@ -90,7 +90,7 @@ fn put_node(node: NodeRecord, n: usize, numbers: &mut [u16])
 
 // Puts both payoffs of the leaf at place `at`.
 fn put_payoffs(payload: Payload, at: usize, payoffs: &mut [i16])
-    requires { ⌜ (at < 4096) × (payoffsRoom ≤ length (now payoffs)) ⌝ }
+    requires { ⌜ (at < sectionRoom) × (payoffsRoom ≤ length (now payoffs)) ⌝ }
     ensures { λ _. ⌜ now (payoffs .exit) ≡ payoffsPut payload at (now (payoffs .entry)) ⌝ }
 {
     let payoff1 = payload.payoff1;
@@ -101,7 +101,7 @@ fn put_payoffs(payload: Payload, at: usize, payoffs: &mut [i16])
 
 // Puts the payoffs of a node that is a leaf at place `at`; the next place that is free.
 fn put_leaf(node: NodeRecord, at: usize, payoffs: &mut [i16]) -> usize
-    requires { ⌜ (at < 4096) × (payoffsRoom ≤ length (now payoffs)) ⌝ }
+    requires { ⌜ (at < sectionRoom) × (payoffsRoom ≤ length (now payoffs)) ⌝ }
     ensures { λ r. ⌜ (r ≡ nextPlace node at) × (now (payoffs .exit) ≡ leafPut node at (now (payoffs .entry))) ⌝ }
 {
     if node.kind == Payload::LEAF {

@@ -5,19 +5,19 @@
 // The comment above an export is its comment in include/desk.h too, which native/derived_files writes.
 ghost use mathlib.Core.Path.{_≡_};
 ghost use Rattle.model.specs.Writing.{gameFields, fieldLists};
-ghost use Rattle.model.specs.Exported.{exported, leaves};
-ghost use Rattle.model.specs.calls.CheckGame.{checkGame};
+ghost use Rattle.model.specs.Exported.{none, same, exported, leaves};
+ghost use Rattle.model.specs.calls.CheckGame.{counts, checkGame};
 ghost use Rattle.model.specs.calls.GameFields as Fields;
+ghost use Rattle.model.specs.calls.CheckPlan.{denominators};
 ghost use Rattle.model.specs.calls.PlanFields.{planFields, denominatorsIn};
 ghost use Rattle.model.specs.calls.PayoffTable.{payoffColumns};
-ghost use Rattle.model.specs.calls.Values as Values;
+ghost use Rattle.model.specs.calls.Values.{pairValues, valuesCall};
 ghost use Rattle.model.specs.calls.Verdict.{numbers, verdictNumbers};
-ghost use Rattle.model.specs.calls.Report as Report;
+ghost use Rattle.model.specs.calls.Report.{reportCall};
 ghost use Rattle.model.specs.calls.RefusalLine.{refusalLine};
 ghost use Rattle.model.specs.calls.WriteGame.{writeGame};
 ghost use Rattle.model.specs.calls.WritePlan.{writePlan};
 ghost use Rattle.model.specs.Demand3.{Demand3MetIn};
-ghost use Rattle.desk_exports.specs.Numbers.{none, same, counts, denominators, pairValues};
 
 // Checks a game file: its node count N, its set count H and its root chance weight D0.
 #[no_mangle]
@@ -29,20 +29,7 @@ pub extern "C" fn desk_check_game(
 ) -> u64
     ensures { λ r. ⌜ leaves r (counts (now (nodes .exit)) (now (sets .exit)) (now («root_weight» .exit))) tt ≡ exported same (counts (now (nodes .entry)) (now (sets .entry)) (now («root_weight» .entry))) (checkGame (now (game .entry))) ⌝ }
 {
-    let answer = entry::check_game(game);
-    match answer {
-        entry::GameAnswer::Accepted {
-            nodes: n,
-            sets: h,
-            root_weight: d,
-        } => {
-            *nodes = n;
-            *sets = h;
-            *root_weight = d;
-            0
-        }
-        entry::GameAnswer::Refused(number) => number,
-    }
+    exported_game::check_game(game, nodes, sets, root_weight)
 }
 
 // All fields of a game, one buffer each. By set, H entries: player (0 is player 1) and move count.
@@ -65,7 +52,7 @@ pub extern "C" fn desk_game_fields(
 ) -> u64
     ensures { λ r. ⌜ leaves r tt (Fields.lists (fieldLists (now («set_players» .exit)) (now («set_moves» .exit)) (now (kinds .exit)) (now (parents .exit)) (now (moves .exit)) (now (weights .exit)) (now («node_sets» .exit)) (now («chance_moves» .exit)) (now (payoffs1 .exit)) (now (payoffs2 .exit)))) ≡ exported none tt (Fields.gameFields (now (game .entry)) (Fields.lists (fieldLists (now («set_players» .entry)) (now («set_moves» .entry)) (now (kinds .entry)) (now (parents .entry)) (now (moves .entry)) (now (weights .entry)) (now («node_sets» .entry)) (now («chance_moves» .entry)) (now (payoffs1 .entry)) (now (payoffs2 .entry))))) ⌝ }
 {
-    let answer = entry::game_fields(
+    exported_game::game_fields(
         game,
         set_players,
         set_moves,
@@ -77,8 +64,7 @@ pub extern "C" fn desk_game_fields(
         chance_moves,
         payoffs1,
         payoffs2,
-    );
-    fields::refusal(answer)
+    )
 }
 
 // D1, D2 and all weights of a plan, in file order: one for each move of each set.
@@ -92,19 +78,7 @@ pub extern "C" fn desk_plan_fields(
 ) -> u64
     ensures { λ r. ⌜ leaves r (denominators (now (d1 .exit)) (now (d2 .exit))) (now (weights .exit), tt) ≡ exported denominatorsIn (denominators (now (d1 .entry)) (now (d2 .entry))) (planFields (now (game .entry)) (now (plan .entry)) (now (weights .entry))) ⌝ }
 {
-    let answer = entry::plan_fields(game, plan, weights);
-    match answer {
-        entry::WeightsAnswer::Given {
-            d1: given1,
-            d2: given2,
-            count: _,
-        } => {
-            *d1 = given1;
-            *d2 = given2;
-            0
-        }
-        entry::WeightsAnswer::Refused(number) => number,
-    }
+    exported_plan::plan_fields(game, plan, d1, d2, weights)
 }
 
 // The payoff table, one buffer a column, and how many rows it has: no more than there are leaves.
@@ -119,14 +93,7 @@ pub extern "C" fn desk_payoff_table(
 ) -> u64
     ensures { λ r. ⌜ leaves r (now (rows .exit)) (now (sequence1 .exit), (now (sequence2 .exit), (now (sum1 .exit), (now (sum2 .exit), tt)))) ≡ exported same (now (rows .entry)) (payoffColumns (now (game .entry)) (now (sequence1 .entry), (now (sequence2 .entry), (now (sum1 .entry), (now (sum2 .entry), tt))))) ⌝ }
 {
-    let answer = entry::payoff_table(game, sequence1, sequence2, sum1, sum2);
-    match answer {
-        entry::TableAnswer::Given { rows: count } => {
-            *rows = count;
-            0
-        }
-        entry::TableAnswer::Refused(number) => number,
-    }
+    exported_table::payoff_table(game, sequence1, sequence2, sum1, sum2, rows)
 }
 
 // Values over D0 × D1 × D2; player 1's best value over D0 × D2 and player 2's over D0 × D1;
@@ -143,30 +110,9 @@ pub extern "C" fn desk_values(
     d1: &mut u64,
     d2: &mut u64,
 ) -> u64
-    ensures { λ r. ⌜ leaves r (pairValues (now (value1 .exit)) (now (value2 .exit)) (now (best1 .exit)) (now (best2 .exit)) (now (d0 .exit)) (now (d1 .exit)) (now (d2 .exit))) tt ≡ exported same (pairValues (now (value1 .entry)) (now (value2 .entry)) (now (best1 .entry)) (now (best2 .entry)) (now (d0 .entry)) (now (d1 .entry)) (now (d2 .entry))) (Values.valuesCall (now (game .entry)) (now (plan .entry))) ⌝ }
+    ensures { λ r. ⌜ leaves r (pairValues (now (value1 .exit)) (now (value2 .exit)) (now (best1 .exit)) (now (best2 .exit)) (now (d0 .exit)) (now (d1 .exit)) (now (d2 .exit))) tt ≡ exported same (pairValues (now (value1 .entry)) (now (value2 .entry)) (now (best1 .entry)) (now (best2 .entry)) (now (d0 .entry)) (now (d1 .entry)) (now (d2 .entry))) (valuesCall (now (game .entry)) (now (plan .entry))) ⌝ }
 {
-    let answer = entry::values(game, plan);
-    match answer {
-        entry::ValuesAnswer::Given {
-            value1: v1,
-            value2: v2,
-            best1: b1,
-            best2: b2,
-            root_weight: w0,
-            d1: w1,
-            d2: w2,
-        } => {
-            *value1 = v1;
-            *value2 = v2;
-            *best1 = b1;
-            *best2 = b2;
-            *d0 = w0;
-            *d1 = w1;
-            *d2 = w2;
-            0
-        }
-        entry::ValuesAnswer::Refused(number) => number,
-    }
+    exported_verdict::values(game, plan, value1, value2, best1, best2, d0, d1, d2)
 }
 
 // The verdict: `player` is 0 where the pair is accepted, else the player, 1 or 2, who is shown to
@@ -186,45 +132,16 @@ pub extern "C" fn desk_verdict(
     ensures { λ r. ⌜ leaves r (numbers (now (player .exit)) (now (gain .exit)) (now (base .exit)) (now (count .exit))) (now (moves .exit), tt) ≡ verdictNumbers (now (game .entry)) (now (plan .entry)) (numbers (now (player .entry)) (now (gain .entry)) (now (base .entry)) (now (count .entry))) (now (moves .entry)) ⌝ }
     ensures { λ r. ⌜ Demand3MetIn (now (game .entry)) (now (plan .entry)) (now (moves .entry)) (leaves r (numbers (now (player .exit)) (now (gain .exit)) (now (base .exit)) (now (count .exit))) (now (moves .exit), tt)) ⌝ }
 {
-    let answer = entry::verdict(game, plan, moves);
-    match answer {
-        entry::VerdictAnswer::Accepted { base: product } => {
-            *player = 0;
-            *gain = 0;
-            *base = product;
-            *count = 0;
-            0
-        }
-        entry::VerdictAnswer::Deviation {
-            player_number: shown,
-            gain: stated,
-            base: product,
-            sets,
-        } => {
-            *player = shown;
-            *gain = stated;
-            *base = product;
-            *count = sets;
-            0
-        }
-        entry::VerdictAnswer::Refused(number) => number,
-    }
+    exported_verdict::verdict(game, plan, player, gain, base, count, moves)
 }
 
 // What the desk program prints for two files that are not sent back, and how many bytes it has.
 // 69,794 bytes are always enough.
 #[no_mangle]
 pub extern "C" fn desk_report(game: &[u8], plan: &[u8], out: &mut [u8], size: &mut u64) -> u64
-    ensures { λ r. ⌜ leaves r (now (size .exit)) (now (out .exit), tt) ≡ exported same (now (size .entry)) (Report.reportCall (now (game .entry)) (now (plan .entry)) (now (out .entry))) ⌝ }
+    ensures { λ r. ⌜ leaves r (now (size .exit)) (now (out .exit), tt) ≡ exported same (now (size .entry)) (reportCall (now (game .entry)) (now (plan .entry)) (now (out .entry))) ⌝ }
 {
-    let answer = entry::report(game, plan, out);
-    match answer {
-        entry::WriteAnswer::Written(text) => {
-            *size = text as u64;
-            0
-        }
-        entry::WriteAnswer::Refused(number) => number,
-    }
+    exported_report::report(game, plan, out, size)
 }
 
 // What the desk program prints for a refusal's number, and how many bytes it has.
@@ -233,14 +150,7 @@ pub extern "C" fn desk_report(game: &[u8], plan: &[u8], out: &mut [u8], size: &m
 pub extern "C" fn desk_refusal_line(number: u64, out: &mut [u8], size: &mut u64) -> u64
     ensures { λ r. ⌜ leaves r (now (size .exit)) (now (out .exit), tt) ≡ exported same (now (size .entry)) (refusalLine number (now (out .entry))) ⌝ }
 {
-    let answer = entry::refusal_line(number, out);
-    match answer {
-        entry::WriteAnswer::Written(line) => {
-            *size = line as u64;
-            0
-        }
-        entry::WriteAnswer::Refused(refusal) => refusal,
-    }
+    exported_report::refusal_line(number, out, size)
 }
 
 // Writes a plan file, from D1, D2 and all weights as one list in file order, and gives its length.
@@ -254,14 +164,7 @@ pub extern "C" fn desk_write_plan(
 ) -> u64
     ensures { λ r. ⌜ leaves r (now (size .exit)) (now (out .exit), tt) ≡ exported same (now (size .entry)) (writePlan d1 d2 (now (weights .entry)) (now (out .entry))) ⌝ }
 {
-    let answer = entry::write_plan(d1, d2, weights, out);
-    match answer {
-        entry::WriteAnswer::Written(written) => {
-            *size = written as u64;
-            0
-        }
-        entry::WriteAnswer::Refused(number) => number,
-    }
+    exported_writers::write_plan(d1, d2, weights, out, size)
 }
 
 // Writes a game file, from D0 and all fields as `desk_game_fields` gives them, and gives its length.
@@ -283,7 +186,7 @@ pub extern "C" fn desk_write_game(
 ) -> u64
     ensures { λ r. ⌜ leaves r (now (size .exit)) (now (out .exit), tt) ≡ exported same (now (size .entry)) (writeGame (gameFields «root_weight» (now («set_players» .entry)) (now («set_moves» .entry)) (now (kinds .entry)) (now (parents .entry)) (now (moves .entry)) (now (weights .entry)) (now («node_sets» .entry)) (now («chance_moves» .entry)) (now («first_payoffs» .entry)) (now («second_payoffs» .entry))) (now (out .entry))) ⌝ }
 {
-    let answer = entry::write_game(
+    exported_writers::write_game(
         root_weight,
         set_players,
         set_moves,
@@ -296,12 +199,6 @@ pub extern "C" fn desk_write_game(
         first_payoffs,
         second_payoffs,
         out,
-    );
-    match answer {
-        entry::WriteAnswer::Written(bytes) => {
-            *size = bytes as u64;
-            0
-        }
-        entry::WriteAnswer::Refused(number) => number,
-    }
+        size,
+    )
 }

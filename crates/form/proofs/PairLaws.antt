@@ -29,11 +29,8 @@ use Rattle.responses.proofs.LeafReadings.{chance-at, payoff-at, weight-is}
 use Rattle.form.specs.Values.{PairWeights, valuesOf}
 
 -- weights that stand at a leaf's own sequences
-pub pair-weight : {w a b chance u v s t : ℕ} (x y : List ℕ) → w ≡ chance → a ≡ item x (0 + u) → u ≡ s → b ≡ item y (0 + v) → v ≡ t → {r : ℕ} → r ≡ w * a * b → r ≡ chance * item x s * item y t
-pair-weight {u = u} {v} x y e f i h j q =
-    let at1 : 0 + u ≡ u = omega arith in
-    let at2 : 0 + v ≡ v = omega arith in
-    q ∙ rw (e, f, h, at1, at2, i, j)
+pub pair-weight : {w a b chance u v s t : ℕ} (x y : List ℕ) → w ≡ chance → a ≡ item x u → u ≡ s → b ≡ item y v → v ≡ t → {r : ℕ} → r ≡ w * a * b → r ≡ chance * item x s * item y t
+pair-weight x y e f i h j q = q ∙ rw (e, f, h, i, j)
 
 module _ {g : Game} {c : Counts} {numbers : List ℕ} {payoffs : List ℤ} (L : Loaded g c numbers payoffs) {x y : List ℕ} (W : PairWeights g x y) where
   abbrev pair : PlanPair

@@ -14,6 +14,7 @@ ghost use Rattle.form.specs.Values.{PairWeights, PairAsked, Evaluated};
 use loaded::Counts;
 use loaded::Section;
 use loaded::number;
+use slices::item;
 use slices::sums::added;
 use slices::sums::weighed;
 
@@ -39,8 +40,8 @@ fn pair_term(numbers: &[u16], payoffs: &[i16], from: usize, x: &[u16], y: &[u16]
     ensures { λ r. ⌜ r ≡ pos (item (now (numbers .entry)) (chanceSection + k) * item (now (x .entry)) (item (now (numbers .entry)) (leafSection one + k)) * item (now (y .entry)) (item (now (numbers .entry)) (leafSection two + k))) *ℤ itemZ (now (payoffs .entry)) (from + k) ⌝ }
 {
     let drawn = number(numbers, Section::CHANCE, k);
-    let own = number(x, 0, number(numbers, Section::LEAF1, k));
-    let other = number(y, 0, number(numbers, Section::LEAF2, k));
+    let own = item(x, number(numbers, Section::LEAF1, k));
+    let other = item(y, number(numbers, Section::LEAF2, k));
     weighed(product(drawn, own, other), loaded::payoff(payoffs, from, k))
 }
 

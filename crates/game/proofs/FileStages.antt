@@ -27,23 +27,32 @@ use Rattle.game.specs.declared.LoadAnswer.the-variants.{Refused}
 use Rattle.game.specs.Refusals.{checkedBy}
 use Rattle.game.specs.Load.{loadAnswer}
 use Rattle.game.specs.Stages.{recordPart, treePart, setPart, leavesBy, RecordsLoaded, FileDecoded, FileRooted, SequencesLoaded, FileChecked}
-use Rattle.game.proofs.Refusals.{refuses}
+use Rattle.game.proofs.Refusals.{refuses, told, told-none}
 use Rattle.game.proofs.Parts.{one-broken}
 
--- the answer of 5 and 6: leaves are counted, or one of them refuses
+-- the number of the answer of 5 and 6
+abbrev brokenOf : NodesAnswer → ℕ
+brokenOf (Leaves leaves) = 0
+brokenOf (Broken n) = n
+
+broken-number : (all k : ℕ) → brokenOf (leavesBy k all) ≡ k
+broken-number all zero = refl
+broken-number all (suc k) = refl
+
+-- leaves are counted, or one of 5 and 6 refuses
 pub leaves-counted : (b : List ℕ) (all : ℕ) {r : NodesAnswer} {leaves : ℕ} → r ≡ leavesBy (refusal recordPart b) all → r ≡ Leaves leaves → (refusal recordPart b ≡ 0) × (leaves ≡ all)
-leaves-counted b all {r} {leaves} e f = go (refusal recordPart b) refl (sym f ∙ e)
-  where
-    go : (k : ℕ) → refusal recordPart b ≡ k → Leaves leaves ≡ leavesBy k all → (refusal recordPart b ≡ 0) × (leaves ≡ all)
-    go zero z e = (z, cc)
-    go (suc n) z e = let y : _≡_ {A = ℕ} 0 1 = cc in absurd (omega arith)
+leaves-counted b all {r} {leaves} e f =
+    let none = told (λ k. leavesBy k all) brokenOf (broken-number all) e f in
+    let same : Leaves leaves ≡ Leaves all = told-none (λ k. leavesBy k all) brokenOf (broken-number all) e f none in
+    (none, cc)
 
 records-broken : (b : List ℕ) (all : ℕ) {r : NodesAnswer} {n : ℕ} → r ≡ leavesBy (refusal recordPart b) all → r ≡ Broken n → Refuses recordPart b n
-records-broken b all {r} {n} e f = go (refusal recordPart b) refl (sym f ∙ e)
+records-broken b all {r} {n} e f =
+    let is = told (λ k. leavesBy k all) brokenOf (broken-number all) e f in
+    record { is = is; some = λ z. not-counted (told-none (λ k. leavesBy k all) brokenOf (broken-number all) e f (is ∙ z)) }
   where
-    go : (k : ℕ) → refusal recordPart b ≡ k → Broken n ≡ leavesBy k all → Refuses recordPart b n
-    go zero z e = let y : _≡_ {A = ℕ} 0 1 = cc in absurd (omega arith)
-    go (suc m) z e = let same : n ≡ suc m = cc in record { is = z ∙ sym same; some = λ y. omega arith }
+    not-counted : ¬ (Broken n ≡ Leaves all)
+    not-counted s = let z : _≡_ {A = ℕ} 0 1 = cc in omega arith
 
 module _ (b : List ℕ) where
   -- a stage refuses

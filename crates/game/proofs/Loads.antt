@@ -10,22 +10,25 @@ use Rattle.loaded.specs.declared.Counts.{Counts}
 use Rattle.game.specs.declared.LoadAnswer.{LoadAnswer}
 use Rattle.game.specs.declared.LoadAnswer.the-variants.{Loaded, Refused}
 use Rattle.game.specs.Load.{loadAnswer, loadRefusalOf}
+use Rattle.game.proofs.Refusals.{told, told-none}
+
+-- the number of the answer
+load-number : (bytes : List ℕ) (k : ℕ) → loadRefusalOf (loadAnswer k bytes) ≡ k
+load-number bytes zero = refl
+load-number bytes (suc k) = refl
 
 -- a game that was accepted has these counts
 pub load-accepted : (bytes : List ℕ) {a : LoadAnswer} {c : Counts} → a ≡ loadAnswer (gameRefusal bytes) bytes → a ≡ Loaded c → (gameRefusal bytes ≡ 0) × (c ≡ countsOf (gameOf bytes))
-load-accepted bytes {a} {c} e f = go (gameRefusal bytes) refl (sym f ∙ e)
-  where
-    go : (k : ℕ) → gameRefusal bytes ≡ k → Loaded c ≡ loadAnswer k bytes → (gameRefusal bytes ≡ 0) × (c ≡ countsOf (gameOf bytes))
-    go zero k e = (k, cc)
-    go (suc n) k e = let z : _≡_ {A = ℕ} 0 1 = cc in absurd (omega arith)
+load-accepted bytes {a} {c} e f =
+    let none = told (λ k. loadAnswer k bytes) loadRefusalOf (load-number bytes) e f in
+    let same : Loaded c ≡ Loaded (countsOf (gameOf bytes)) = told-none (λ k. loadAnswer k bytes) loadRefusalOf (load-number bytes) e f none in
+    (none, cc)
 
 -- the number of a game's refusal
 pub load-refused : (bytes : List ℕ) {a : LoadAnswer} {k r : ℕ} → a ≡ loadAnswer (gameRefusal bytes) bytes → a ≡ Refused k → r ≡ loadRefusalOf a → (r ≡ gameRefusal bytes) × (¬ (r ≡ 0))
-load-refused bytes {a} {k} {r} e f g = go (gameRefusal bytes) refl (sym f ∙ e)
+load-refused bytes {a} {k} {r} e f g =
+    let is : r ≡ gameRefusal bytes = g ∙ ap loadRefusalOf f ∙ sym (told (λ k. loadAnswer k bytes) loadRefusalOf (load-number bytes) e f) in
+    (is, λ z. not-given (told-none (λ k. loadAnswer k bytes) loadRefusalOf (load-number bytes) e f (sym is ∙ z)))
   where
-    go : (n : ℕ) → gameRefusal bytes ≡ n → Refused k ≡ loadAnswer n bytes → (r ≡ gameRefusal bytes) × (¬ (r ≡ 0))
-    go zero m e = let z : _≡_ {A = ℕ} 0 1 = cc in absurd (omega arith)
-    go (suc n) m e =
-        let same : k ≡ suc n = cc in
-        let is : r ≡ k = g ∙ ap loadRefusalOf f in
-        (is ∙ same ∙ sym m, λ z. omega (arith, is, same))
+    not-given : ¬ (Refused k ≡ Loaded (countsOf (gameOf bytes)))
+    not-given s = let z : _≡_ {A = ℕ} 0 1 = cc in omega arith

@@ -10,6 +10,7 @@ use Rattle.checks.specs.declared.Checked.the-variants.{Fine, Broken}
 use Rattle.checks.specs.Checked.{checkedOf, numberOf}
 use Rattle.checks.proofs.Chains.{Refuses, Left, stops}
 use Rattle.game.specs.Refusals.{checkedBy}
+use Rattle.game.proofs.Refusals.{told, told-none}
 
 -- an answer and its number say the same
 by-number : (r : Checked) → ¬ (numberOf r ≡ 0) → r ≡ checkedBy (numberOf r)
@@ -17,6 +18,7 @@ by-number Fine n = absurd (n refl)
 by-number (Broken zero) n = absurd (n refl)
 by-number (Broken (suc k)) n = refl
 
+-- its number can be read from it
 number-by : (k : ℕ) → numberOf (checkedBy k) ≡ k
 number-by zero = refl
 number-by (suc k) = refl
@@ -40,9 +42,9 @@ module _ {A : Type 0} where
 
   -- what the answer says of all: none is broken, or one is
   pub all-fine : (rows : Rows A) (a : A) {r : Checked} → r ≡ checkedBy (refusal rows a) → r ≡ Fine → refusal rows a ≡ 0
-  all-fine rows a e f = sym (number-by (refusal rows a)) ∙ ap numberOf (sym e ∙ f)
+  all-fine rows a e f = told checkedBy numberOf number-by e f
 
   pub one-broken : (rows : Rows A) (a : A) {r : Checked} {n m : ℕ} → r ≡ checkedBy (refusal rows a) → r ≡ Broken n → m ≡ numberOf r → Refuses rows a m
   one-broken rows a e f g =
-      let is = sym (number-by (refusal rows a)) ∙ ap numberOf (sym e) ∙ sym g in
-      record { is = is; some = λ z. not-fine (sym f ∙ e ∙ ap checkedBy (is ∙ z)) }
+      let is = told checkedBy numberOf number-by e f ∙ sym (g ∙ ap numberOf f) in
+      record { is = is; some = λ z. not-fine (told-none checkedBy numberOf number-by e f (is ∙ z)) }

@@ -6,31 +6,24 @@ use mathlib.Core.List.{List}
 use native.Mathlib.Omega.{arith}
 use lib.IntN.{ℤ}
 use lib.ListN.{length}
-use Rattle.algebra.specs.Sections.{Apart}
-use Rattle.algebra.proofs.Sections.{held-before}
-use Rattle.model.specs.Game.{Game, gameOf}
+use Rattle.model.specs.Game.{gameOf}
 use Rattle.model.specs.GameChecks.{recordsWellFormed}
 use Rattle.model.specs.Rows.{refusal}
 use Rattle.model.specs.Checks.{recordRows}
-use Rattle.model.specs.Limits.{countLimit}
 use Rattle.model.proofs.Rows.{none}
 use Rattle.model.proofs.Budget.{game-limits}
 use Rattle.checks.specs.declared.Checked.{Checked}
 use Rattle.checks.specs.declared.Checked.the-variants as checked
 use Rattle.checks.specs.Checked.{numberOf}
 use Rattle.checks.proofs.Chains.{Refuses, begin, passes, stops}
-use Rattle.loaded.specs.Sections.{kindSection, firstNodeSection, numbersRoom}
+use Rattle.loaded.specs.Sections.{numbersRoom}
 use Rattle.loaded.specs.Leaves.{leavesOf}
-use Rattle.loaded.specs.Loaded.{SetsDecoded}
+use Rattle.loaded.proofs.Decoded.{sets-apart}
 use Rattle.decoding.specs.declared.NodesAnswer.{NodesAnswer}
 use Rattle.decoding.specs.declared.NodesAnswer.the-variants.{Broken}
 use Rattle.decoding.specs.Decoding.{SetsLoaded, NodesLoaded, nodesAnswer}
 use Rattle.game.specs.Stages.{recordPart, leavesBy, RecordsLoaded}
 use Rattle.game.proofs.Refusals.{refuses}
-
--- node records stand after set entries
-sets-apart : {g : Game} {l k : List ℕ} → SetsDecoded g l → Apart kindSection firstNodeSection l k → g .sets ≤ countLimit → SetsDecoded g k
-sets-apart S a few = record { players = held-before (S .players) a (omega arith); moves = held-before (S .moves) a (omega arith) }
 
 module _ (bytes : List ℕ) {r : Checked} {before middle : List ℕ} (S : SetsLoaded (gameOf bytes) r before middle) where
   -- 5 is broken
@@ -58,7 +51,7 @@ module _ (bytes : List ℕ) {r : Checked} {before middle : List ℕ} (S : SetsLo
           few-nodes = game-limits bytes .nodes;
           few-sets = game-limits bytes .sets;
           room = omega (arith, S .apart .long, N .apart .long);
-          sets-decoded = sets-apart (S .decoded (t .0)) (N .apart) (game-limits bytes .sets);
+          sets-decoded = sets-apart (S .decoded (t .0)) (N .apart) (omega arith) (game-limits bytes .sets);
           nodes-decoded = N .decoded (t .1 .0);
         };
     by-leaf = λ e. N .by-leaf (none recordPart bytes tt .0 e .1 .0);

@@ -18,7 +18,7 @@ use Rattle.checks.specs.Checked.{checkedOf, numberOf}
 use Rattle.checks.proofs.Chains.{Refuses, begin, passes, stops, ends}
 use Rattle.records.specs.declared.game_file.Header.{Header}
 use Rattle.records.proofs.Headers.{header-nodes, header-sets, header-weight}
-use Rattle.loaded.specs.Sections.{firstNodeSection, startSection, ownSection, leadSection}
+use Rattle.loaded.specs.Sections.{sectionRoom, firstNodeSection, startSection, ownSection, leadSection}
 use Rattle.loaded.specs.Leaves.{leavesOf}
 use Rattle.loaded.specs.Sets.{firstSequence}
 use Rattle.loaded.specs.Rooted.{Rooted}
@@ -40,11 +40,11 @@ pub stored-first : {g : Game} {l k : List ℕ} → Decoded g l → Rooted g → 
 stored-first D R a h = stored-none (decoded-apart D a (omega arith)) R h one
 
 -- those of player 1 are put: those of player 2 can be
-pub stored-second : {g : Game} {l k : List ℕ} → OwnStored g one 0 l → Apart (ownSection one) (ownSection one + 4096) l k → OwnStored g two 0 k
+pub stored-second : {g : Game} {l k : List ℕ} → OwnStored g one 0 l → Apart (ownSection one) (ownSection one + sectionRoom) l k → OwnStored g two 0 k
 stored-second S a = stored-none (decoded-apart (S .decoded) a (omega arith)) (S .rooted) (held-before (S .starts) a (omega (arith, S .decoded .few-sets))) two
 
 -- both are put
-pub sequences-numbered : {g : Game} {r : SequenceCounts} {l k : List ℕ} → r ≡ sequenceCounts g → OwnStored g two 0 l → Held (ownSection one) (ownNumber g one) (g .nodes) l → Apart (ownSection two) (ownSection two + 4096) l k → Held (ownSection two) (ownNumber g two) (g .nodes) k → SequencesNumbered g r k
+pub sequences-numbered : {g : Game} {r : SequenceCounts} {l k : List ℕ} → r ≡ sequenceCounts g → OwnStored g two 0 l → Held (ownSection one) (ownNumber g one) (g .nodes) l → Apart (ownSection two) (ownSection two + sectionRoom) l k → Held (ownSection two) (ownNumber g two) (g .nodes) k → SequencesNumbered g r k
 sequences-numbered {g} {r} {l} {k} e S h a i = record {
   counted = e;
   decoded = decoded-apart (S .decoded) a (omega arith);

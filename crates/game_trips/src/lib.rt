@@ -36,7 +36,7 @@ fn write_fronts(
     requires { ⌜ (h ≤ length (now «set_players»)) × (h ≤ length (now «set_moves»)) × (n ≤ length (now kinds)) × (n ≤ length (now parents)) × (n ≤ length (now moves)) × (n ≤ length (now weights)) × (n ≤ length (now «node_sets»)) × (n ≤ length (now «chance_moves»)) × (n ≤ length (now payoffs1)) × (n ≤ length (now payoffs2)) ⌝ }
     ensures { λ r. ⌜ outcome (writeAnswered r) (now (out .exit), tt) ≡ writeGame (gameFields «root_weight» (take h (now («set_players» .entry))) (take h (now («set_moves» .entry))) (take n (now (kinds .entry))) (take n (now (parents .entry))) (take n (now (moves .entry))) (take n (now (weights .entry))) (take n (now («node_sets» .entry))) (take n (now («chance_moves» .entry))) (take n (now (payoffs1 .entry))) (take n (now (payoffs2 .entry)))) (now (out .entry)) ⌝ }
 {
-    writers::game_writer::write(
+    game_writer::write(
         root_weight,
         &set_players[..h],
         &set_moves[..h],
@@ -134,7 +134,7 @@ pub fn reread_game(
     ensures { λ r. ⌜ outcome (fieldsAnswered r) (lists (fieldLists (now («set_players_out» .exit)) (now («set_moves_out» .exit)) (now («kinds_out» .exit)) (now («parents_out» .exit)) (now («moves_out» .exit)) (now («weights_out» .exit)) (now («node_sets_out» .exit)) (now («chance_moves_out» .exit)) (now («payoffs1_out» .exit)) (now («payoffs2_out» .exit)))) ≡ rereadGame (gameFields «root_weight» (now («set_players» .entry)) (now («set_moves» .entry)) (now (kinds .entry)) (now (parents .entry)) (now (moves .entry)) (now (weights .entry)) (now («node_sets» .entry)) (now («chance_moves» .entry)) (now (payoffs1 .entry)) (now (payoffs2 .entry))) (lists (fieldLists (now («set_players_out» .entry)) (now («set_moves_out» .entry)) (now («kinds_out» .entry)) (now («parents_out» .entry)) (now («moves_out» .entry)) (now («weights_out» .entry)) (now («node_sets_out» .entry)) (now («chance_moves_out» .entry)) (now («payoffs1_out» .entry)) (now («payoffs2_out» .entry)))) ⌝ }
 {
     let mut file = [0u8; Header::LONGEST_FILE];
-    let written = writers::game_writer::write(
+    let written = game_writer::write(
         root_weight,
         set_players,
         set_moves,

@@ -12,50 +12,40 @@ use Rattle.algebra.specs.Arrays.{item}
 use Rattle.algebra.specs.Sections.{Held, Apart}
 use Rattle.algebra.proofs.Sections.{held-put, held-still, held-before, held-as, apart-none, apart-set, apart-twice}
 use Rattle.algebra.proofs.Tests.{dec}
-use Rattle.model.specs.Game.{Game, Player, one, two, samePlayer, playerOf, playerBit, owns}
+use Rattle.model.specs.Game.{Game, Player, one, two, samePlayer, playerOf, owns}
 use Rattle.model.specs.Sequences.{leadingNumber, sequenceCount}
-use Rattle.model.specs.Writing.{playerField}
 use Rattle.model.proofs.Numbers.{leading-number, sequences-few}
-use Rattle.model.proofs.Tree.{bit-below, owner}
-use Rattle.loaded.specs.Sections.{headSection}
+use Rattle.model.proofs.Tree.{owner}
+use Rattle.loaded.specs.Sections.{sectionRoom, playerSection, leadSection, headSection, nextSection, numbersRoom}
 use Rattle.loaded.specs.Sets.{leadBy, firstLed, nextLed}
+use Rattle.loaded.proofs.Owners.{player-read}
 use Rattle.loaded.proofs.Chains.{led-end, led-here, led-next}
 use Rattle.gather.specs.Numbered.{Numbered}
 use Rattle.gather.specs.Gathered.{ChainsFrom, Chained}
 
 -- where a player's heads stand
-pub heads-within : (p : Player) → (65536 ≤ headSection p) × (headSection p + 4096 ≤ 73728)
+heads-within : (p : Player) → (headSection one ≤ headSection p) × (headSection p + sectionRoom ≤ nextSection)
 heads-within one = (omega arith, omega arith)
 heads-within two = (omega arith, omega arith)
 
 -- and that the players' are apart
-heads-apart : (p r : Player) → ¬ T (samePlayer p r) → (i j : ℕ) → i < 4096 → j < 4096 → ¬ (headSection p + i ≡ headSection r + j)
+heads-apart : (p r : Player) → ¬ T (samePlayer p r) → (i j : ℕ) → i < sectionRoom → j < sectionRoom → ¬ (headSection p + i ≡ headSection r + j)
 heads-apart one one d i j u v e = d tt
 heads-apart one two d i j u v e = omega arith
 heads-apart two one d i j u v e = omega arith
 heads-apart two two d i j u v e = d tt
 
--- the player whose bit it is
-bit-player : (p : Player) → playerOf (playerBit p) ≡ p
-bit-player one = λ i. one
-bit-player two = λ i. two
-
 -- a player has fewer sequences than a section has places
-pub sequences-below : {g : Game} {l : List ℕ} → Numbered g l → (p : Player) → sequenceCount g p < 4096
+pub sequences-below : {g : Game} {l : List ℕ} → Numbered g l → (p : Player) → sequenceCount g p < sectionRoom
 sequences-below {g} N p = omega (arith, sequences-few g (N .rules) p, N .decoded .few-nodes)
 
 module _ {g : Game} {l : List ℕ} (N : Numbered g l) {h : ℕ} (v : h < g .sets) where
-  -- the player that is read is set h's
-  pub bit-small : {bit : ℕ} → bit ≡ item l (0 + h) → bit < 2
-  unfolding playerField
-  bit-small e = omega (arith, e ∙ N .decoded .sets-decoded .players .at 0 h v, bit-below (g .setPlayer h))
-
-  pub heads-are : {bit heads : ℕ} → bit ≡ item l (0 + h) → heads ≡ headSection (playerOf bit) → heads ≡ headSection (g .setPlayer h)
-  unfolding playerField
-  heads-are e f = f ∙ ap (λ (b : ℕ). headSection (playerOf b)) (e ∙ N .decoded .sets-decoded .players .at 0 h v) ∙ ap headSection (bit-player (g .setPlayer h))
+  -- the heads that are read are those of set h's player
+  pub heads-are : {bit heads : ℕ} → bit ≡ item l (playerSection + h) → heads ≡ headSection (playerOf bit) → heads ≡ headSection (g .setPlayer h)
+  heads-are e f = f ∙ ap headSection (player-read (N .decoded) v e)
 
   -- the sequence that is read leads to it
-  pub lead-is : {lead : ℕ} → lead ≡ item l (45056 + h) → lead ≡ leadingNumber g h
+  pub lead-is : {lead : ℕ} → lead ≡ item l (leadSection + h) → lead ≡ leadingNumber g h
   lead-is e = e ∙ N .leads .at 0 h v
 
   -- and is one of the player's
@@ -63,24 +53,24 @@ module _ {g : Game} {l : List ℕ} (N : Numbered g l) {h : ℕ} (v : h < g .sets
   lead-below = leading-number g (N .rules) h v .0
 
   -- so its head is a place of the section
-  pub head-in : {heads lead : ℕ} → heads ≡ headSection (g .setPlayer h) → lead ≡ leadingNumber g h → (65536 ≤ heads + lead) × (heads + lead < 73728)
+  pub head-in : {heads lead : ℕ} → heads ≡ headSection (g .setPlayer h) → lead ≡ leadingNumber g h → (headSection one ≤ heads + lead) × (heads + lead < nextSection)
   head-in e f =
       let w = heads-within (g .setPlayer h) in
       (omega (arith, w .0), omega (arith, w .1, lead-below, sequences-below N (g .setPlayer h)))
 
   -- A set is linked by two stores: what comes after it, and itself at the head.
-  module _ (heads lead next : ℕ) {m k : List ℕ} (heads-is : heads ≡ headSection (g .setPlayer h)) (lead-led : lead ≡ leadingNumber g h) (first : m ≡ set l (73728 + h) next) (second : k ≡ set m (heads + lead) h) where
+  module _ (heads lead next : ℕ) {m k : List ℕ} (heads-is : heads ≡ headSection (g .setPlayer h)) (lead-led : lead ≡ leadingNumber g h) (first : m ≡ set l (nextSection + h) next) (second : k ≡ set m (heads + lead) h) where
     -- they change nothing but the chains
-    pub link-apart : Apart 65536 77824 l k
+    pub link-apart : Apart (headSection one) numbersRoom l k
     link-apart =
-        let one-put : Apart 65536 77824 l m = apart-set (73728 + h) next apart-none first (omega arith) (omega (arith, N .decoded .few-sets)) in
+        let one-put : Apart (headSection one) numbersRoom l m = apart-set (nextSection + h) next apart-none first (omega arith) (omega (arith, N .decoded .few-sets)) in
         let i = head-in heads-is lead-led in
         apart-set (heads + lead) h one-put second (i .0) (omega (arith, i .1))
 
     module _ (C : ChainsFrom g (h + 1) l) where
       -- the first store leaves the heads as they were
       heads-still : (q : Player) → Held (headSection q) (λ s. firstLed g q s (h + 1)) (sequenceCount g q) m
-      heads-still q = held-still (73728 + h) next (C .heads q) first (λ i u e. omega (arith, heads-within q .1, sequences-below N q))
+      heads-still q = held-still (nextSection + h) next (C .heads q) first (λ i u e. omega (arith, heads-within q .1, sequences-below N q))
 
       -- the second puts one of them anew
       heads-linked : (q : Player) → Held (headSection q) (λ s. firstLed g q s h) (sequenceCount g q) k
@@ -99,25 +89,25 @@ module _ {g : Game} {l : List ℕ} (N : Numbered g l) {h : ℕ} (v : h < g .sets
           ]
 
       -- a place past the heads has what the first store left there
-      past-heads : (d j : ℕ) → getD k (73728 + j) d ≡ getD (set l (73728 + h) next) (73728 + j) d
+      past-heads : (d j : ℕ) → getD k (nextSection + j) d ≡ getD (set l (nextSection + h) next) (nextSection + j) d
       past-heads d j =
-          ap (λ (z : List ℕ). getD z (73728 + j) d) second
-          ∙ getD-set-other m (heads + lead) (73728 + j) h d (λ e. omega (arith, head-in heads-is lead-led .1))
-          ∙ ap (λ (z : List ℕ). getD z (73728 + j) d) first
+          ap (λ (z : List ℕ). getD z (nextSection + j) d) second
+          ∙ getD-set-other m (heads + lead) (nextSection + j) h d (λ e. omega (arith, head-in heads-is lead-led .1))
+          ∙ ap (λ (z : List ℕ). getD z (nextSection + j) d) first
 
-      nexts-linked : next ≡ item l (heads + lead) → (d j : ℕ) → h ≤ j → j < g .sets → getD k (73728 + j) d ≡ nextLed g j
+      nexts-linked : next ≡ item l (heads + lead) → (d j : ℕ) → h ≤ j → j < g .sets → getD k (nextSection + j) d ≡ nextLed g j
       unfolding nextLed
       nexts-linked is d j a u =
           past-heads d j
           ∙ elim (ℕ-discrete j h) [
             | yes q ↦
                 rw q
-                (getD-set-same l (73728 + h) next d (omega (arith, N .decoded .few-sets, N .decoded .room))
+                (getD-set-same l (nextSection + h) next d (omega (arith, N .decoded .few-sets, N .decoded .room))
                 ∙ is
                 ∙ ap (λ (a : ℕ). item l (a + lead)) heads-is
                 ∙ C .heads (g .setPlayer h) .at 0 lead (omega (arith, lead-below))
                 ∙ ap (λ (s : ℕ). firstLed g (g .setPlayer h) s (h + 1)) lead-led)
-            | no q ↦ getD-set-other l (73728 + h) (73728 + j) next d (λ e. q (omega arith)) ∙ C .nexts d j (omega (arith, q)) u
+            | no q ↦ getD-set-other l (nextSection + h) (nextSection + j) next d (λ e. q (omega arith)) ∙ C .nexts d j (omega (arith, q)) u
           ]
 
       -- so the chains of the sets from h on are made
@@ -125,12 +115,12 @@ module _ {g : Game} {l : List ℕ} (N : Numbered g l) {h : ℕ} (v : h < g .sets
       linked is = record { heads = heads-linked; nexts = nexts-linked is }
 
 -- both players' heads are filled
-pub heads-filled : {g : Game} {a b : ℕ} {l m k : List ℕ} → Numbered g l → a ≡ sequenceCount g one → b ≡ sequenceCount g two → Apart 65536 (65536 + a) l m → Apart 69632 (69632 + b) m k → Apart 65536 77824 l k
-heads-filled N a b first second = apart-twice 65536 77824 first second (omega arith) (omega (arith, sequences-below N one)) (omega arith) (omega (arith, sequences-below N two))
+pub heads-filled : {g : Game} {a b : ℕ} {l m k : List ℕ} → Numbered g l → a ≡ sequenceCount g one → b ≡ sequenceCount g two → Apart (headSection one) (headSection one + a) l m → Apart (headSection two) (headSection two + b) m k → Apart (headSection one) numbersRoom l k
+heads-filled N a b first second = apart-twice (headSection one) numbersRoom first second (omega arith) (omega (arith, sequences-below N one)) (omega arith) (omega (arith, sequences-below N two))
 
 module _ (g : Game) where
   -- where the loop begins no chain has a set
-  pub chains-none : (sets a b : ℕ) {l m k : List ℕ} → sets ≡ g .sets → a ≡ sequenceCount g one → b ≡ sequenceCount g two → Held 65536 (λ _. sets) a m → Held 69632 (λ _. sets) b k → Apart 69632 (69632 + b) m k → Numbered g l → ChainsFrom g sets k
+  pub chains-none : (sets a b : ℕ) {l m k : List ℕ} → sets ≡ g .sets → a ≡ sequenceCount g one → b ≡ sequenceCount g two → Held (headSection one) (λ _. sets) a m → Held (headSection two) (λ _. sets) b k → Apart (headSection two) (headSection two + b) m k → Numbered g l → ChainsFrom g sets k
   chains-none sets a b {k = k} e ea eb first second kept N = record { heads = both; nexts = λ d j u v. absurd (omega arith) }
     where
       end : (p : Player) (s : ℕ) → sets ≡ firstLed g p s sets

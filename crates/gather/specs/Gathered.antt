@@ -1,24 +1,30 @@
 -- What the last sections hold of a game: as far as they are filled, and in the end.
-use Prim.Native.Nat.{ℕ, _+_, _≤_, _<_}
+use Prim.Native.Nat.{ℕ, zero, suc, _+_, _≤_, _<_}
 use mathlib.Core.Path.{_≡_}
 use mathlib.Core.List.{List}
 use lib.ListN.{length, getD}
 use Rattle.algebra.specs.Arrays.{item}
 use Rattle.algebra.specs.Bounded.{joinTo}
 use Rattle.algebra.specs.Sections.{Held}
-use Rattle.model.specs.Game.{Game, Player}
+use Rattle.model.specs.Game.{Game, Player, one, two}
 use Rattle.model.specs.Sequences.{sequenceCount}
 use Rattle.model.specs.Table.{ownNumber}
 use Rattle.loaded.specs.Sections.{orderSection, leafSection, chanceSection, headSection, nextSection}
+use Rattle.loaded.specs.Rows.{Rows}
 use Rattle.loaded.specs.Leaves.{leavesBelow, leavesOf, leafOf}
 use Rattle.loaded.specs.Sets.{firstLed, nextLed, beginsAt, setOrder}
 
 module _ (g : Game) where
+  -- the three sections by leaf: both players' own sequences, chance weights
+  abbrev pub leafNumbers : (t k : ℕ) → ℕ
+  leafNumbers zero k = ownNumber g one (leafOf g k)
+  leafNumbers (suc zero) k = ownNumber g two (leafOf g k)
+  leafNumbers (suc (suc t)) k = g .weight (leafOf g k)
+
   -- the first `count` leaves stand in their three sections, and are those below node n
   pub record LeavesBelow (n count : ℕ) (numbers : List ℕ) : Type 0 where
     pub counted : count ≡ length (leavesBelow g n)
-    pub leaves : (p : Player) → Held (leafSection p) (λ k. ownNumber g p (leafOf g k)) count numbers
-    pub chances : Held chanceSection (λ k. g .weight (leafOf g k)) count numbers
+    pub rows : Rows (leafSection one) 3 leafNumbers 0 count numbers
 
   -- all leaves
   pub record LeavesGathered (count : ℕ) (numbers : List ℕ) : Type 0 where

@@ -2,31 +2,19 @@
 ghost use mathlib.Core.Path.{_≡_};
 ghost use Prim.Native.Nat.{_+_, _<_};
 ghost use Rattle.algebra.specs.Sections.{Apart};
-ghost use Rattle.model.specs.Game.{Game, one, two, playerOf};
+ghost use Rattle.model.specs.Game.{Game, one, two};
 ghost use Rattle.model.specs.Sequences.{sequenceCount};
 ghost use Rattle.loaded.specs.Sections.{headSection, numbersRoom};
 ghost use Rattle.gather.specs.Numbered.{Numbered, NumberedIn};
 ghost use Rattle.gather.specs.Gathered.{ChainsFrom, Chained};
 use loaded::Section;
 
-// Where the heads of player 0's or 1's chains begin.
-fn heads_of(player: usize) -> usize
-    requires { ⌜ player < 2 ⌝ }
-    ensures { λ r. ⌜ r ≡ headSection (playerOf player) ⌝ }
-{
-    if player == 0 {
-        Section::HEAD1
-    } else {
-        Section::HEAD2
-    }
-}
-
 // Set `h` at the head of the chain of the sequence that leads to it.
 fn link(numbers: &mut [u16], h: usize)
     requires { ⌜ NumberedIn (λ g. h < g .sets) (now numbers) ⌝ }
     ensures { λ _. ⌜ Apart (headSection one) numbersRoom (now (numbers .entry)) (now (numbers .exit)) × ((g : Game) → h < g .sets → Numbered g (now (numbers .entry)) → ChainsFrom g (h + 1) (now (numbers .entry)) → ChainsFrom g h (now (numbers .exit))) ⌝ }
 {
-    let heads = heads_of(loaded::number(numbers, Section::PLAYER, h));
+    let heads = loaded::head_section(loaded::number(numbers, Section::PLAYER, h));
     let lead = loaded::number(numbers, Section::LEAD, h);
     let next = loaded::number(numbers, heads, lead);
     loaded::put(numbers, Section::NEXT, h, next);

@@ -8,6 +8,7 @@ ghost use Rattle.model.specs.Game.{Game, one};
 ghost use Rattle.loaded.specs.Sections.{leafSection, headSection, numbersRoom};
 ghost use Rattle.gather.specs.Numbered.{Numbered, NumberedIn};
 ghost use Rattle.gather.specs.Gathered.{LeavesBelow, LeavesGathered};
+ghost use Rattle.gather.specs.Gathering.{Added};
 use loaded::Section;
 use records::Payload;
 
@@ -27,7 +28,7 @@ fn put_leaf(numbers: &mut [u16], n: usize, at: usize)
 // Node `n`, where it is a leaf, into place `at`; the next place that is free.
 fn add_node(numbers: &mut [u16], n: usize, at: usize) -> usize
     requires { ⌜ (n ≤ countLimit) × (at ≤ countLimit) × (numbersRoom ≤ length (now numbers)) ⌝ }
-    ensures { λ r. ⌜ (r ≤ at + 1) × Apart (leafSection one) (headSection one) (now (numbers .entry)) (now (numbers .exit)) × ((g : Game) → n < g .nodes → Numbered g (now (numbers .entry)) → LeavesBelow g n at (now (numbers .entry)) → LeavesBelow g (n + 1) r (now (numbers .exit))) ⌝ }
+    ensures { λ r. ⌜ Added (leafSection one) (headSection one) LeavesBelow n at r (now (numbers .entry)) (now (numbers .exit)) ⌝ }
 {
     if loaded::number(numbers, Section::KIND, n) as u64 == Payload::LEAF {
         put_leaf(numbers, n, at);

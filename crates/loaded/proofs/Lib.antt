@@ -3,6 +3,7 @@ pub mod LeafColumns
 pub mod LeafSums
 pub mod Owners
 pub mod Rooted
+pub mod Rows
 pub mod Views
 pub mod Weights
 pub mod Decoded

@@ -1,13 +1,22 @@
--- A number read from a section is that of a game that stands there.
-use Prim.Native.Nat.{ℕ, _+_, _<_}
+-- What is read of a node is what a game that stands there has.
+use Prim.Native.Nat.{ℕ, suc, _+_, _<_}
 use mathlib.Core.Path.{_≡_, ap, _∙_}
+use mathlib.Core.Bool.{Bool, true, _&&_}
 use mathlib.Core.List.{List}
+use native.Mathlib.Omega.{arith}
+use lib.Dec.{eqb}
 use borrow.Author.Tests.{eq-eqb, ne-eqb}
 use Rattle.algebra.specs.Arrays.{item}
+use Rattle.algebra.specs.Bounded.{implies}
 use Rattle.model.specs.Game.{Game, isDecision, isChance, nodeMoves}
 use Rattle.loaded.specs.Sections.{movesSection, kindSection, parentSection, placeSection, weightSection, payloadSection}
 use Rattle.loaded.specs.Sets.{payloadNumber}
 use Rattle.loaded.specs.Loaded.{Decoded}
+
+-- a kind from 3 on is no decision and no chance node
+pub neither : (k : ℕ) (a b : Bool) → (implies (eqb (suc (suc (suc k))) 1) a && implies (eqb (suc (suc (suc k))) 2) b) ≡ true
+unfolding implies
+neither k a b = rw (ne-eqb (suc (suc (suc k))) 1 (λ e. omega arith), ne-eqb (suc (suc (suc k))) 2 (λ e. omega arith))
 
 module _ {g : Game} {numbers : List ℕ} (D : Decoded g numbers) {n : ℕ} (l : n < g .nodes) where
   -- the fields of node n's record

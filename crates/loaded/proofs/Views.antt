@@ -1,24 +1,22 @@
 -- A loaded game's sections as lists of their own.
-use Prim.Native.Nat.{ℕ, _<_}
+use Prim.Native.Nat.{ℕ}
 use mathlib.Core.Path.{_≡_, _∙_, ap}
 use mathlib.Core.List.{List}
 use native.Mathlib.Omega.{arith}
 use lib.IntN.{ℤ}
-use lib.ListN.{length, length-drop}
-use lib.Seq.{getD-drop}
+use lib.ListN.{length}
 use Rattle.algebra.specs.Sections.{section, Held}
-use Rattle.algebra.proofs.Sections.{held-section}
+use Rattle.algebra.proofs.Sections.{section-long, section-at}
 use Rattle.model.specs.Game.{Game, one, two}
-use Rattle.loaded.specs.Sections.{playerSection, movesSection, firstNodeSection, startSection, leadSection, leafSection, chanceSection, payoffSection}
+use Rattle.loaded.specs.Sections.{leafSection, chanceSection, payoffSection}
 use Rattle.loaded.specs.Leaves.{leavesOf, leafOf, Column, Gathered}
-use Rattle.loaded.specs.Sets.{SetsGathered}
 use Rattle.loaded.specs.Counts.{countsOf}
-use Rattle.loaded.specs.Loaded.{NumbersLoaded, Loaded}
+use Rattle.loaded.specs.Loaded.{Loaded}
 use Rattle.loaded.specs.declared.Counts.{Counts}
 
 -- a section by leaf is a column
 pub column-in : {g : Game} {A : Type 0} {from : ℕ} {f : ℕ → A} {l : List A} → Held from (λ k. f (leafOf g k)) (length (leavesOf g)) l → Column g f (section from l)
-column-in {from = from} {l = l} h = record { long = omega (arith, h .long, length-drop from l); at = λ d k v. getD-drop from l k d ∙ h .at d k v }
+column-in {from = from} {l = l} h = record { long = omega (arith, h .long, section-long from l); at = λ d k v. section-at from l k d ∙ h .at d k v }
 
 -- how many leaves there are
 pub leaves-counted : (g : Game) {c : Counts} → c ≡ countsOf g → c .leaves ≡ length (leavesOf g)
@@ -34,14 +32,4 @@ gathered-in L = record {
   chance-is = column-in (L .in-numbers .chances);
   payoffs1-is = column-in (L .in-payoffs one);
   payoffs2-is = column-in (L .in-payoffs two);
-}
-
--- all sets, as five lists
-pub sets-gathered-in : {g : Game} {c : Counts} {numbers : List ℕ} → NumbersLoaded g c numbers → SetsGathered g (section playerSection numbers) (section movesSection numbers) (section startSection numbers) (section leadSection numbers) (section firstNodeSection numbers)
-sets-gathered-in L = record {
-  players-hold = held-section (L .decoded .sets-decoded .players);
-  count-holds = held-section (L .decoded .sets-decoded .moves);
-  start-holds = held-section (L .starts);
-  leads-hold = held-section (L .leads);
-  node-holds = held-section (L .first-nodes);
 }

@@ -1,5 +1,4 @@
 -- How much a game has of each, and what one player's best response takes of it.
-use Prim.Native.Nat.{ℕ}
 use lib.ListN.{length}
 use Rattle.model.specs.Game.{Game, Player, one, two}
 use Rattle.model.specs.Sequences.{sequenceCount}

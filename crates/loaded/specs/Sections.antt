@@ -1,77 +1,81 @@
 -- Where each section of a loaded game begins.
-use Prim.Native.Nat.{ℕ}
+use Prim.Native.Nat.{ℕ, _*_}
 use Rattle.model.specs.Game.{Player, one, two}
+
+-- the places of a section
+abbrev pub sectionRoom : ℕ
+sectionRoom = 4096
 
 -- by set: its player, its move count
 abbrev pub playerSection : ℕ
 playerSection = 0
 
 abbrev pub movesSection : ℕ
-movesSection = 4096
+movesSection = sectionRoom
 
 -- by node: kind, parent, move at the parent, chance weight, and what its payload counts or names
 abbrev pub kindSection : ℕ
-kindSection = 8192
+kindSection = 2 * sectionRoom
 
 abbrev pub parentSection : ℕ
-parentSection = 12288
+parentSection = 3 * sectionRoom
 
 abbrev pub placeSection : ℕ
-placeSection = 16384
+placeSection = 4 * sectionRoom
 
 abbrev pub weightSection : ℕ
-weightSection = 20480
+weightSection = 5 * sectionRoom
 
 abbrev pub payloadSection : ℕ
-payloadSection = 24576
+payloadSection = 6 * sectionRoom
 
 -- by set: its first node, and the number of its first sequence
 abbrev pub firstNodeSection : ℕ
-firstNodeSection = 28672
+firstNodeSection = 7 * sectionRoom
 
 abbrev pub startSection : ℕ
-startSection = 32768
+startSection = 8 * sectionRoom
 
 -- by node: the number of a player's own sequence to it
 abbrev pub ownSection : Player → ℕ
-ownSection one = 36864
-ownSection two = 40960
+ownSection one = 9 * sectionRoom
+ownSection two = 10 * sectionRoom
 
 -- by set: the number of the sequence that leads to it
 abbrev pub leadSection : ℕ
-leadSection = 45056
+leadSection = 11 * sectionRoom
 
 -- the sets in the order of their first nodes
 abbrev pub orderSection : ℕ
-orderSection = 49152
+orderSection = 12 * sectionRoom
 
 -- by leaf: the number of a player's own sequence to it
 abbrev pub leafSection : Player → ℕ
-leafSection one = 53248
-leafSection two = 57344
+leafSection one = 13 * sectionRoom
+leafSection two = 14 * sectionRoom
 
 -- and its chance weight
 abbrev pub chanceSection : ℕ
-chanceSection = 61440
+chanceSection = 15 * sectionRoom
 
 -- by sequence of a player: the first set that it leads to
 abbrev pub headSection : Player → ℕ
-headSection one = 65536
-headSection two = 69632
+headSection one = 16 * sectionRoom
+headSection two = 17 * sectionRoom
 
 -- by set: the next one that the same sequence leads to
 abbrev pub nextSection : ℕ
-nextSection = 73728
+nextSection = 18 * sectionRoom
 
 -- how many numbers there are
 abbrev pub numbersRoom : ℕ
-numbersRoom = 77824
+numbersRoom = 19 * sectionRoom
 
 -- by leaf: a player's payoff, among the payoffs
 abbrev pub payoffSection : Player → ℕ
 payoffSection one = 0
-payoffSection two = 4096
+payoffSection two = sectionRoom
 
 -- how many payoffs there are
 abbrev pub payoffsRoom : ℕ
-payoffsRoom = 8192
+payoffsRoom = 2 * sectionRoom

@@ -3,11 +3,9 @@ use Prim.Native.Nat.{ℕ, _+_, _-_}
 use mathlib.Core.Bool.{Bool, _&&_, cond}
 use mathlib.Core.List.{List, [], _∷_}
 use lib.Dec.{eqb}
-use Rattle.algebra.specs.Arrays.{Holds}
 use Rattle.algebra.specs.Bounded.{firstTo, joinTo}
 use Rattle.model.specs.Game.{Game, Player, isDecision, isChance, owns}
 use Rattle.model.specs.Sequences.{firstNode, leadingNumber, moveNumber}
-use Rattle.model.specs.Writing.{playerField}
 
 module _ (g : Game) where
   -- what the payload of node n names or counts: a decision's set, a chance node's moves; 0 at a leaf
@@ -37,11 +35,3 @@ module _ (g : Game) where
   -- all sets, in the order of their first nodes
   unfoldable pub setOrder : List ℕ
   setOrder = joinTo (g .nodes) beginsAt
-
--- All sets stand in five slices: players, move counts, first sequences, leading sequences, first nodes.
-pub record SetsGathered (g : Game) (players count start leads node : List ℕ) : Type 0 where
-  pub players-hold : Holds (playerField g) (g .sets) players
-  pub count-holds : Holds (g .setMoves) (g .sets) count
-  pub start-holds : Holds (firstSequence g) (g .sets) start
-  pub leads-hold : Holds (leadingNumber g) (g .sets) leads
-  pub node-holds : Holds (firstNode g) (g .sets) node

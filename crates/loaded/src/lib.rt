@@ -5,6 +5,7 @@ ghost use lib.ListN.{length, set};
 ghost use Rattle.algebra.specs.Arrays.{item, itemZ};
 ghost use Rattle.algebra.specs.Sections.{Held, Apart};
 ghost use Rattle.model.specs.Game.{playerOf};
+ghost use Rattle.loaded.specs.Sections.{ownSection, headSection};
 ghost use Rattle.loaded.specs.Counts.{sideOf};
 
 // How much there is of each: nodes, sets, leaves and each player's sequences; and D0.
@@ -120,6 +121,30 @@ impl Section {
     pub const PAYOFFS2: usize = Section::ROOM;
 
     pub const PAYOFFS: usize = 2 * Section::ROOM;
+}
+
+// Where the numbers of a player's own sequences by node begin.
+pub fn own_section(player: usize) -> usize
+    requires { ⌜ player < 2 ⌝ }
+    ensures { λ r. ⌜ r ≡ ownSection (playerOf player) ⌝ }
+{
+    if player == 0 {
+        Section::OWN1
+    } else {
+        Section::OWN2
+    }
+}
+
+// Where the first sets that a player's sequences lead to begin.
+pub fn head_section(player: usize) -> usize
+    requires { ⌜ player < 2 ⌝ }
+    ensures { λ r. ⌜ r ≡ headSection (playerOf player) ⌝ }
+{
+    if player == 0 {
+        Section::HEAD1
+    } else {
+        Section::HEAD2
+    }
 }
 
 // The number at place `i` of the section that begins at `section`.

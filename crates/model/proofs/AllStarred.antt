@@ -1,7 +1,7 @@
 -- Answers that are worked out by hand, proved by computation: document 01's starred cases, its listing for plan F and others,
 -- and further cases, each for a wrong turn that it bars.
 use Prim.Native.Nat.{ℕ}
-use mathlib.Core.Path.{_≡_, refl}
+use mathlib.Core.Path.{refl}
 use mathlib.Core.List.{List, [], _∷_}
 use lib.IntN.{pos, negsuc}
 use Rattle.algebra.specs.Bounded as Bounded

@@ -1,7 +1,7 @@
 -- Each condition of a statement is met by something: a condition that nothing meets would make its statement say nothing.
 -- Strategies, pure and mixed, are met in demand 3 itself (`StrategiesExist`).
-use Prim.Native.Nat.{ℕ, _/_, _*_, _+_, _^_, _<_}
-use mathlib.Core.Path.{_≡_, refl, sym, subst}
+use Prim.Native.Nat.{ℕ, _/_, _*_, _+_, _<_}
+use mathlib.Core.Path.{refl, sym, subst}
 use mathlib.Core.List.{List, [], _∷_}
 use native.Mathlib.Omega.{arith}
 use native.Mathlib.Decide.{decLt}

@@ -6,12 +6,14 @@ pub mod Call
 pub mod Checks
 pub mod Conditions
 pub mod Cut
+pub mod CutTexts
 pub mod Decisions
 pub mod Demand1
 pub mod Demand2
 pub mod Demand3
 pub mod Duality
 pub mod Earnings
+pub mod Exported
 pub mod FieldRules
 pub mod Flow
 pub mod GameRules

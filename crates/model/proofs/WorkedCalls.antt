@@ -1,7 +1,7 @@
 -- Calls worked out by hand from document 01, proved by computation: what each call gives, with buffers as long as the result,
 -- longer, and one entry short. What 18 is measured against is said here in numbers.
 use Prim.Native.Nat.{ℕ, _+_, pred}
-use mathlib.Core.Path.{_≡_, refl}
+use mathlib.Core.Path.{refl}
 use mathlib.Core.Bool.{cond}
 use mathlib.Core.List.{List, [], _∷_, _++_}
 use lib.Dec.{eqb}

@@ -9,6 +9,14 @@ pub record Exported (shape : List (Type 0)) (N : Type 0) : Type 0 where
   pub numbers : N
   pub buffers : Buffers shape
 
+-- all that a call gives goes to lent numbers
+abbrev pub same : {A : Type 0} → A → A
+same x = x
+
+-- no number is lent
+abbrev pub none : {A : Type 0} → A → Unit {0}
+none x = tt
+
 -- the number of an answer's refusal; 0 where something is given
 abbrev pub refusalOf : {R : Type 0} → Answer R → ℕ
 refusalOf (given r) = 0

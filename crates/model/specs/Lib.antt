@@ -2,6 +2,7 @@ pub mod BestResponse
 pub mod Bits
 pub mod Call
 pub mod Checks
+pub mod CutTexts
 pub mod Demand1
 pub mod Demand2
 pub mod Demand3

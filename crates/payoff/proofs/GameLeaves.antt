@@ -1,33 +1,29 @@
 -- The leaves of a loaded game can be sorted by their pairs of sequences, and the rows from them are the game's payoff table.
-use Prim.Native.Nat.{ℕ, _-_, _*_, _<_}
+use Prim.Native.Nat.{ℕ, _<_}
 use mathlib.Core.Path.{_≡_, ap}
 use mathlib.Core.List.{List}
 use native.Mathlib.Omega.{arith}
 use lib.IntN.{ℤ}
-use lib.ListN.{length, take, drop, length-drop}
-use lib.Seq.{take-all}
-use Rattle.algebra.specs.Arrays.{item}
-use Rattle.algebra.specs.Sections.{section}
+use lib.ListN.{length}
 use Rattle.model.specs.Game.{Game, Player, one, two}
 use Rattle.model.specs.Sequences.{sequenceCount}
 use Rattle.model.specs.Table.{ownNumber, payoffTable}
 use Rattle.model.proofs.Numbers.{sequences-few}
-use Rattle.loaded.specs.Sections.{leafSection, payoffSection}
+use Rattle.loaded.specs.Sections.{leafSection}
 use Rattle.loaded.specs.Leaves.{leavesOf, Column}
 use Rattle.loaded.specs.Counts.{countsOf}
 use Rattle.loaded.specs.Loaded.{NumbersLoaded, Loaded}
 use Rattle.loaded.specs.declared.Counts.{Counts}
 use Rattle.loaded.proofs.Gathered.{all-few}
 use Rattle.loaded.proofs.LeafColumns.{column-below}
-use Rattle.loaded.proofs.Views.{column-in, leaves-counted, gathered-in}
-use Rattle.payoff.specs.Table.{Keyed, Sortable, pairKey, Rows, RowReady, TableLaid}
-use Rattle.payoff.specs.Layout.{leavesIn, SequenceReady, SumReady}
+use Rattle.loaded.proofs.Views.{leaves-counted, column-in, gathered-in}
+use Rattle.algebra.specs.Sections.{section}
+use Rattle.sorting.specs.Sorted.{Keyed}
+use Rattle.sorting.specs.Pairs.{Sortable}
+use Rattle.payoff.specs.Table.{TableLaid}
+use Rattle.payoff.specs.Layout.{leavesIn, RowsIn}
 use Rattle.payoff.proofs.PayoffTables.{table-laid}
 use Rattle.payoff.proofs.GameTables.{addable, table-rows}
-
--- all of a list from a place on
-pub part-from : (from : ℕ) (l : List ℕ) → take (length l - from) (drop from l) ≡ section from l
-part-from from l = take-all (length l - from) (drop from l) (omega (arith, length-drop from l))
 
 module _ {g : Game} {c : Counts} {numbers : List ℕ} (N : NumbersLoaded g c numbers) where
   counted1 : c .sequences1 ≡ sequenceCount g one
@@ -47,7 +43,7 @@ module _ {g : Game} {c : Counts} {numbers : List ℕ} (N : NumbersLoaded g c num
       let column : Column g (ownNumber g p) (section (leafSection p) numbers) = column-in (N .leaves p) in
       record { long = omega (arith, leaves-are, column .long); below = λ k v. column-below g (N .rules) p column k (omega (arith, leaves-are)) }
 
-  -- what `rows` requires
+  -- they can be sorted by pairs
   pub numbers-sortable : Sortable (c .leaves) (c .sequences1) (c .sequences2) (section (leafSection one) numbers) (section (leafSection two) numbers)
   numbers-sortable = record {
     first-keyed = rw counted1 (keyed one);
@@ -58,23 +54,9 @@ module _ {g : Game} {c : Counts} {numbers : List ℕ} (N : NumbersLoaded g c num
   }
 
 -- the rows from them are the game's table
-pub rows-are-table : {g : Game} {c : Counts} {numbers : List ℕ} {payoffs : List ℤ} → Loaded g c numbers payoffs → {rows : ℕ} {sorted bounds : List ℕ} → Rows (pairKey (c .sequences2) (item (section (leafSection one) numbers)) (item (section (leafSection two) numbers))) (c .leaves) (c .sequences1 * c .sequences2) rows sorted bounds → c .leaves < length bounds → TableLaid (payoffTable g) rows (leavesIn numbers payoffs sorted bounds)
+pub rows-are-table : {g : Game} {c : Counts} {numbers : List ℕ} {payoffs : List ℤ} → Loaded g c numbers payoffs → {rows : ℕ} {sorted bounds : List ℕ} → RowsIn (leafSection one) (leafSection two) c numbers rows sorted bounds → c .leaves < length bounds → TableLaid (payoffTable g) rows (leavesIn numbers payoffs sorted bounds)
 rows-are-table {g} {c} L rows few =
     let N = L .in-numbers in
     let S = numbers-sortable N in
     let G = gathered-in L in
     table-rows g G (rw (counted1 N, counted2 N) at (table-laid _ _ (c .leaves) (c .sequences1) (c .sequences2) (S .first-keyed) (S .second-keyed) rows few _ _ _ (addable g G (N .limits) one) (addable g G (N .limits) two)))
-
--- What each number of a row needs of the sections.
-module _ {numbers : List ℕ} {payoffs : List ℤ} {sorted bounds : List ℕ} {k : ℕ} (R : RowReady (leavesIn numbers payoffs sorted bounds) k) where
-  pub sequence1-ready : SequenceReady (leafSection one) numbers sorted bounds k
-  sequence1-ready = record { bound-in = omega (arith, R .bounds-long); begins = R .begins; leaf-in = R .in-first }
-
-  pub sequence2-ready : SequenceReady (leafSection two) numbers sorted bounds k
-  sequence2-ready = record { bound-in = omega (arith, R .bounds-long); begins = R .begins; leaf-in = R .in-second }
-
-  pub sum1-ready : SumReady (payoffSection one) numbers payoffs sorted bounds k
-  sum1-ready = record { bounds-long = R .bounds-long; summable = R .sum1 }
-
-  pub sum2-ready : SumReady (payoffSection two) numbers payoffs sorted bounds k
-  sum2-ready = record { bounds-long = R .bounds-long; summable = R .sum2 }

@@ -18,12 +18,10 @@ use Rattle.model.specs.Limits.{GameLimits}
 use Rattle.model.specs.Game.{Game, Player, one, two, isLeaf}
 use Rattle.model.specs.Sequences.{sequenceCount}
 use Rattle.model.specs.Table.{ownNumber, standsAt, pairSum, rowAt, rowsAt, payoffTable, weightedPayoff}
-use Rattle.model.specs.Rules.{GameRules}
 use Rattle.model.proofs.Budget.{table-fits}
-use Rattle.model.proofs.Numbers.{own-number-below, sequences-few}
 use Rattle.loaded.specs.Leaves.{leafAt, leavesBelow, leavesOf, leafOf, Column, Gathered}
-use Rattle.payoff.specs.Table.{Keyed, weighedAt, standsBy, pairSumBy, rowOf, rowsBy, tableBy, Leaves, TableLaid, Addable}
-use Rattle.loaded.proofs.Gathered.{all-few}
+use Rattle.payoff.specs.Table.{weighedAt, Leaves, TableLaid}
+use Rattle.payoff.proofs.ByPairs.{standsBy, pairSumBy, rowOf, rowsBy, tableBy, Addable}
 use Rattle.loaded.proofs.LeafSums.{leaves-sum, leaves-prefix, leaf-in}
 use Rattle.loaded.proofs.LeafColumns.{player-leaves, ofPlayer}
 

@@ -1,9 +1,5 @@
-pub mod Blocks
+pub mod ByPairs
 pub mod GameLeaves
 pub mod GameTables
-pub mod Listings
 pub mod PayoffTables
-pub mod Ranks
-pub mod RowBounds
 pub mod RowSums
-pub mod SortedPairs

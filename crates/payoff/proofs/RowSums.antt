@@ -7,7 +7,7 @@ use lib.IntN.{ℤ, pos, _+ℤ_}
 use Rattle.algebra.specs.Arrays.{item}
 use Rattle.algebra.specs.Bounded.{sumTo}
 use Rattle.algebra.proofs.Sums.{sum-suc}
-use Rattle.payoff.specs.Table.{weighedAt, leafSum}
+use Rattle.payoff.specs.Table.{weighedAt, leafSum, sumIn}
 
 module _ (sorted chance : List ℕ) (payoffs : List ℤ) (start : ℕ) where
   pub sum-none : pos 0 ≡ leafSum sorted chance payoffs start (start - start)
@@ -21,3 +21,7 @@ module _ (sorted chance : List ℕ) (payoffs : List ℤ) (start : ℕ) where
       let n : i + 1 - start ≡ suc (i - start) = omega arith in
       let at : start + (i - start) ≡ i = omega arith in
       rw (e, f, n) (ap (λ (k : ℕ). sumTo (i - start) (λ j. weighedAt chance payoffs (item sorted (start + j))) +ℤ weighedAt chance payoffs (item sorted k)) (sym at) ∙ sym (sum-suc (i - start) (λ j. weighedAt chance payoffs (item sorted (start + j)))))
+
+-- the sum from where a row begins to where the next one does
+pub row-sum : (sorted bounds chance : List ℕ) (payoffs : List ℤ) (k : ℕ) {start end : ℕ} → start ≡ item bounds k → end ≡ item bounds (k + 1) → {r : ℤ} → r ≡ leafSum sorted chance payoffs start (end - start) → r ≡ sumIn sorted bounds k chance payoffs
+row-sum sorted bounds chance payoffs k e f h = rw (e, f) at h

@@ -1,4 +1,3 @@
-// The payoff table of a game: its leaves sorted by both players' sequences, and a row for each pair of sequences at which some leaf stands.
-pub mod grouping;
+// The payoff table of a loaded game: its leaves in the order of the table, and the numbers of each row from them.
 pub mod layout;
-pub mod sort;
+pub mod sums;

@@ -1,14 +1,10 @@
 -- Arrays that hold a plan file's weights by number serve for its plans: values and best responses are the same.
-use Prim.Native.Nat.{ℕ, _≤_}
+use Prim.Native.Nat.{ℕ}
 use mathlib.Core.Path.{_≡_, _∙_}
 use mathlib.Core.Bool.{true}
 use mathlib.Core.List.{List}
-use native.Mathlib.Omega.{arith}
-use native.Mathlib.Decide.{decLt}
-use lib.ListN.{length, getD, replicate, length-replicate, getD-replicate, List·getD-eq-default}
-use Rattle.algebra.specs.Arrays.{item, Holds, over}
+use Rattle.algebra.specs.Arrays.{item, Holds}
 use Rattle.algebra.proofs.Tests.{T→true}
-use Rattle.algebra.proofs.Fillings.{over-at, over-past}
 use Rattle.model.specs.Game.{Game, Player, one, two, other, gameOf}
 use Rattle.model.specs.Sequences.{ownSequence, sequenceCount}
 use Rattle.model.specs.Plan.{weightAt, pairFits, planPairOf}
@@ -16,16 +12,15 @@ use Rattle.model.specs.Checks.{pairRefusal}
 use Rattle.model.specs.Earnings.{valueCount}
 use Rattle.model.specs.BestResponse.{bestCount, bestMove}
 use Rattle.model.specs.Rules.{GameRules}
-use Rattle.model.specs.Limits.{weightLimit, countLimit}
 use Rattle.model.proofs.SamePlans.{SameWeights, best-count-agrees, best-move-agrees, value-count-agrees}
 use Rattle.model.proofs.Checks.{game-rules, plan-rules, pair-parts}
 use Rattle.model.proofs.Numbers.{number-below}
 use Rattle.model.proofs.PlanRules.{pair-fits-iff}
 use Rattle.model.proofs.Tree.{own-sequence}
 use Rattle.plan.specs.Weights.{weightByNumber}
-use Rattle.loaded.specs.Weights.{planByNumber, pairByNumber, Small}
+use Rattle.loaded.specs.Weights.{planByNumber, pairByNumber}
 use Rattle.loaded.proofs.Weights.{weight-at}
-use Rattle.plan.proofs.ByNumber.{weight-is, small-number, same-pair-fits}
+use Rattle.plan.proofs.ByNumber.{weight-is, same-pair-fits}
 
 -- One player's array.
 module _ (g : Game) (rules : GameRules g) (plan : List ℕ) (p : Player) {x : List ℕ} (held : Holds (weightByNumber g plan p) (sequenceCount g p) x) where
@@ -65,27 +60,3 @@ stored-fits game plan none held1 held2 =
     let parts = pair-parts game plan .0 none in
     same-pair-fits g (game-rules game (parts .0)) plan held1 held2
     ∙ T→true (pairFits g (planPairOf g plan)) (pair-fits-iff g (planPairOf g plan) .passes (plan-rules game plan (parts .1) .fit))
-
--- an array of small numbers that is filled with weights has small numbers only
-pub stored-small : (g : Game) (plan : List ℕ) (p : Player) {x : List ℕ} (l : List ℕ) → x ≡ over (weightByNumber g plan p) (sequenceCount g p) l → Small (length l) l → Small (length x) x
-stored-small g plan p l e small i v =
-    rw e
-    elim (decLt i (sequenceCount g p)) [
-      | yes b ↦ rw (over-at 0 (weightByNumber g plan p) (sequenceCount g p) l i b) (small-number g plan p i)
-      | no b ↦ rw (over-past 0 (weightByNumber g plan p) (sequenceCount g p) l i (omega arith)) (held i)
-    ]
-  where
-    held : (i : ℕ) → getD l i 0 ≤ weightLimit
-    held i =
-        elim (decLt i (length l)) [
-          | yes b ↦ small i b
-          | no b ↦ omega (arith, List·getD-eq-default l 0 {n = i} (omega arith))
-        ]
-
--- zeros are small
-zeros-small : (k : ℕ) → Small (length {A = ℕ} (replicate k 0)) (replicate k 0)
-zeros-small k i v = omega (arith, getD-replicate {A = ℕ} k i 0 0 (omega (arith, length-replicate {A = ℕ} k 0)))
-
--- an array of zeros that is filled with weights
-pub stored-zeros : (g : Game) (plan : List ℕ) (p : Player) {x : List ℕ} → x ≡ over (weightByNumber g plan p) (sequenceCount g p) (replicate countLimit 0) → Small (length x) x
-stored-zeros g plan p e = stored-small g plan p (replicate countLimit 0) e (zeros-small countLimit)

@@ -1,6 +1,5 @@
 -- What checks 14 to 16 take of a loaded game.
 use Prim.Native.Nat.{ℕ, _+_, _≤_, _<_}
-use mathlib.Core.Path.{_≡_}
 use mathlib.Core.List.{List}
 use lib.ListN.{length}
 use Rattle.algebra.specs.Sections.{Held}

@@ -1,6 +1,6 @@
 // Checks 14 and 15: the length of a plan file, its header and its filling.
 ghost use mathlib.Core.Path.{_≡_};
-ghost use Prim.Native.Nat.{_+_, _*_, _-_, _/_, _≤_};
+ghost use Prim.Native.Nat.{_+_, _*_, _-_, _/_};
 ghost use lib.ListN.{length};
 ghost use Rattle.model.specs.Game.{Game};
 ghost use Rattle.model.specs.PlanChecks.{planHasLength, planWellFormed};

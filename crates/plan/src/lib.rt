@@ -1,4 +1,4 @@
-// Plan files: read, checked by document 01's checks 14 to 16, and decoded into weights by sequence number.
+// Plan files for a loaded game: checked by document 01's checks 14 to 16, decoded into weights by sequence number, and put back in file order.
 ghost use mathlib.Core.List.{List};
 ghost use Prim.Native.Nat.{ℕ, _≤_};
 ghost use lib.ListN.{length};
@@ -14,26 +14,15 @@ use records::PlanHeader;
 
 mod fits;
 mod format;
-pub mod pair;
+mod order;
 mod weights;
 
 pub use format::weight_count;
+pub use order::put_weights;
 
 // The answer to a plan file, for a loaded game: its denominators.
 pub enum PlanAnswer {
     Fits(Denominators),
-    Refused(u64),
-}
-
-// What is known of a pair that fits an accepted game: the game's counts and the denominators.
-pub struct PairHeader {
-    pub counts: Counts,
-    pub denominators: Denominators,
-}
-
-// The answer to a game file with a plan file.
-pub enum PairAnswer {
-    Fits(PairHeader),
     Refused(u64),
 }
 

@@ -36,7 +36,7 @@ pub fn rewrite_plan(game: &[u8], plan: &[u8], out: &mut [u8]) -> WriteAnswer
         return WriteAnswer::Refused(plans::refusal(read));
     };
     let n = bits::index(count);
-    writers::plan_writer::write(d1, d2, &weights[..n], out)
+    plan_writer::write(d1, d2, &weights[..n], out)
 }
 
 // Writes a plan and reads it back with a game: D1, D2 and the very weights that are given.
@@ -45,7 +45,7 @@ pub fn reread_plan(game: &[u8], d1: u64, d2: u64, weights: &[u64], out: &mut [u6
     ensures { λ r. ⌜ outcome (weightsAnswered r) (now (out .exit), tt) ≡ rereadPlan (now (game .entry)) d1 d2 (now (weights .entry)) (now (out .entry)) ⌝ }
 {
     let mut file = [0u8; ROOM];
-    let written = writers::plan_writer::write(d1, d2, weights, &mut file);
+    let written = plan_writer::write(d1, d2, weights, &mut file);
     let c17 = checks::check(17, checks::refusal(written) != 17);
     let Checked::Fine = c17 else {
         return WeightsAnswer::Refused(checks::number(c17));

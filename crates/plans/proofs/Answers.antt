@@ -23,11 +23,11 @@ use Rattle.checks.proofs.Chains.{call-refuses}
 use Rattle.checks.proofs.Files.{pair-refuses, pair-fine}
 use Rattle.checks.proofs.OneBuffer.{one-short, one-given}
 use Rattle.loaded.specs.declared.Counts.{Counts}
-use Rattle.plan.specs.declared.PairHeader.{PairHeader}
-use Rattle.plan.specs.Weights.{weightsOf, weightByNumber}
-use Rattle.plan.specs.Refusals.{inFileOrder}
-use Rattle.plan.proofs.Pairs.{PairOpened, pair-counted, file-order}
-use Rattle.plan.proofs.PairDenominators.{d1-is, d2-is}
+use Rattle.pair.specs.declared.PairHeader.{PairHeader}
+use Rattle.plan.specs.Weights.{weightsOf, weightByNumber, inFileOrder}
+use Rattle.pair.proofs.Pairs.{PairOpened, pair-counted}
+use Rattle.plan.proofs.FileOrder.{file-order}
+use Rattle.pair.proofs.PairDenominators.{d1-is, d2-is}
 
 -- The check of a plan.
 module _ (game plan : List ℕ) where

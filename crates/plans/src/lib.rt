@@ -7,7 +7,7 @@ ghost use Rattle.model.specs.calls.PlanFields.{planFields};
 ghost use Rattle.plans.specs.Answers.{planAnswered, weightsAnswered};
 use checks::Checked;
 use loaded::Section;
-use plan::PairAnswer;
+use pair::PairAnswer;
 use records::NodeRecord;
 
 // The answer to a plan file against a game file: it fits, with D1 and D2, or the first refusal, 1 to 16.
@@ -44,9 +44,9 @@ pub fn check_plan(game: &[u8], plan: &[u8]) -> PlanAnswer
     let mut payoffs = [0i16; Section::PAYOFFS];
     let mut x = [0u16; NodeRecord::NODES];
     let mut y = [0u16; NodeRecord::NODES];
-    let answer = plan::pair::read(game, plan, &mut numbers, &mut payoffs, &mut x, &mut y);
+    let answer = pair::read(game, plan, &mut numbers, &mut payoffs, &mut x, &mut y);
     let PairAnswer::Fits(pair) = answer else {
-        return PlanAnswer::Refused(plan::pair::refusal(answer));
+        return PlanAnswer::Refused(pair::refusal(answer));
     };
     let read = pair.denominators;
     PlanAnswer::Fits {
@@ -63,9 +63,9 @@ pub fn plan_fields(game: &[u8], plan: &[u8], weights: &mut [u64]) -> WeightsAnsw
     let mut payoffs = [0i16; Section::PAYOFFS];
     let mut x = [0u16; NodeRecord::NODES];
     let mut y = [0u16; NodeRecord::NODES];
-    let checked = plan::pair::read(game, plan, &mut numbers, &mut payoffs, &mut x, &mut y);
+    let checked = pair::read(game, plan, &mut numbers, &mut payoffs, &mut x, &mut y);
     let PairAnswer::Fits(pair) = checked else {
-        return WeightsAnswer::Refused(plan::pair::refusal(checked));
+        return WeightsAnswer::Refused(pair::refusal(checked));
     };
     let counts = pair.counts;
     let count = plan::weight_count(counts);
@@ -73,7 +73,7 @@ pub fn plan_fields(game: &[u8], plan: &[u8], weights: &mut [u64]) -> WeightsAnsw
     let Checked::Fine = c18 else {
         return WeightsAnswer::Refused(checks::number(c18));
     };
-    plan::pair::put_weights(counts, &x, &y, weights);
+    plan::put_weights(counts, &x, &y, weights);
     let denominators = pair.denominators;
     WeightsAnswer::Given {
         d1: denominators.d1,

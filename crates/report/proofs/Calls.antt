@@ -27,13 +27,13 @@ use Rattle.checks.proofs.Files.{pair-refuses, pair-fine}
 use Rattle.model.proofs.Rows.{refusal-below}
 use Rattle.checks.proofs.OneBuffer.{one-short, one-given}
 use Rattle.records.proofs.Widths.{few-sets}
-use Rattle.plan.specs.declared.PairHeader.{PairHeader}
-use Rattle.plan.proofs.Pairs.{PairOpened}
+use Rattle.pair.specs.declared.PairHeader.{PairHeader}
+use Rattle.pair.proofs.Pairs.{PairOpened}
 use Rattle.form.specs.declared.Values.{Values}
-use Rattle.plan.proofs.PairDenominators.{d1-is, d2-is}
+use Rattle.pair.proofs.PairDenominators.{d1-is, d2-is}
 use Rattle.judgement.specs.declared.Verdict.{Verdict}
 use Rattle.judgement.specs.Judgement.{judged}
-use Rattle.verdict.proofs.EvaluatedPairs.{EvaluationOpened, weight-is, sets-are}
+use Rattle.evaluation.proofs.EvaluatedPairs.{EvaluationOpened, weight-is, sets-are}
 use Rattle.verdict.proofs.VerdictAnswered.{judged-as}
 use Rattle.text.specs.Text.{Put}
 use Rattle.text.proofs.Lengths.{refusal-line-length}

@@ -9,7 +9,7 @@ use Rattle.algebra.specs.Bounded.{joinTo}
 use Rattle.model.specs.Earnings.{Fraction, baseOf}
 use Rattle.model.specs.Report.{ascii, line, moveLine}
 use Rattle.model.specs.Limits.{weightLimit, countLimit}
-use Rattle.plan.specs.declared.PairHeader.{PairHeader}
+use Rattle.pair.specs.declared.PairHeader.{PairHeader}
 use Rattle.form.specs.declared.Values.{Values}
 use Rattle.judgement.specs.Strategy.{isOwn}
 use Rattle.judgement.specs.declared.Verdict.{Verdict}

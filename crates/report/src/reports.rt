@@ -12,15 +12,14 @@ use super::MOST;
 use super::whole::write;
 use checks::Checked;
 use checks::WriteAnswer;
+use evaluation::PairEvaluated;
 use form::Values;
 use judgement::Verdict;
 use loaded::Section;
-use plan::PairHeader;
+use pair::PairHeader;
 use records::NodeRecord;
 use text::lines::put_refusal;
 use text::put_text;
-use verdict::PairEvaluated;
-use verdict::pairs;
 use verdict::verdicts::judge;
 
 // Puts a whole text at the start of the buffer; 18 where it is too short for it.
@@ -61,7 +60,7 @@ pub fn report(game: &[u8], plan: &[u8], out: &mut [u8]) -> WriteAnswer
     let mut payoffs = [0i16; Section::PAYOFFS];
     let mut moves1 = [0u16; NodeRecord::NODES];
     let mut moves2 = [0u16; NodeRecord::NODES];
-    let evaluated = pairs::evaluate(
+    let evaluated = evaluation::evaluate(
         game,
         plan,
         &mut numbers,
@@ -70,7 +69,7 @@ pub fn report(game: &[u8], plan: &[u8], out: &mut [u8]) -> WriteAnswer
         &mut moves2,
     );
     let PairEvaluated::Evaluated { pair, values } = evaluated else {
-        return WriteAnswer::Refused(pairs::refusal(evaluated));
+        return WriteAnswer::Refused(evaluation::refusal(evaluated));
     };
     let judged = judge(values, pair.denominators);
     give_report(&numbers, pair, values, judged, &moves1, &moves2, out)

@@ -9,7 +9,7 @@ use super::Bases;
 use super::strategy::put_strategy;
 use form::Values;
 use judgement::Verdict;
-use plan::PairHeader;
+use pair::PairHeader;
 use text::lines::put_accepted;
 use text::lines::put_amount_line;
 use verdict::verdicts::base;

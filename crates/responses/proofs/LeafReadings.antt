@@ -123,7 +123,5 @@ module _ {g : Game} {c : Counts} {numbers : List ℕ} {payoffs : List ℤ} (L : 
     sums-held held = record { loaded = L .in-numbers; small = small; held = held }
 
 -- a chance weight times the weight that stands at a sequence's number
-pub term-weight : {a b s chance other : ℕ} (y : List ℕ) → a ≡ chance → b ≡ item y (0 + s) → s ≡ other → a * b ≡ chance * item y other
-term-weight {s = s} y e h i =
-    let at : 0 + s ≡ s = omega arith in
-    rw (e, h, at, i)
+pub term-weight : {a b s chance other : ℕ} (y : List ℕ) → a ≡ chance → b ≡ item y s → s ≡ other → a * b ≡ chance * item y other
+term-weight y e h i = rw (e, h, i)

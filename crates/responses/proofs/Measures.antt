@@ -26,7 +26,7 @@ use Rattle.responses.proofs.SequencesAt.{later}
 module _ (numbers : List ℕ) (heads : ℕ) where
   -- set h is that player's, and sequence s leads to it
   unfoldable pub ledIn : (s h : ℕ) → Bool
-  ledIn s h = eqb (65536 + 4096 * item numbers (playerSection + h)) heads && eqb (item numbers (leadSection + h)) s
+  ledIn s h = eqb (headSection one + 4096 * item numbers (playerSection + h)) heads && eqb (item numbers (leadSection + h)) s
 
   -- the least first node of the sets that sequence s leads to; 4096 where there is none
   unfoldable pub lowest : (sets s : ℕ) → ℕ
@@ -59,7 +59,7 @@ module _ (numbers : List ℕ) (heads : ℕ) where
       found = firstTo 4096 test
 
 -- a player's first sets tell him
-heads-tell : (p r : Player) → eqb (65536 + 4096 * playerBit r) (headSection p) ≡ samePlayer p r
+heads-tell : (p r : Player) → eqb (headSection one + 4096 * playerBit r) (headSection p) ≡ samePlayer p r
 heads-tell one one = refl
 heads-tell one two = refl
 heads-tell two one = refl

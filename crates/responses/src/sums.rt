@@ -15,6 +15,7 @@ ghost use Rattle.responses.specs.Responses.{ResponseAsked};
 use loaded::Counts;
 use loaded::Section;
 use loaded::number;
+use slices::item;
 use slices::sums::added;
 use slices::sums::weighed;
 
@@ -31,7 +32,7 @@ fn opponent_term(
     ensures { λ r. ⌜ r ≡ pos (item (now (numbers .entry)) (chanceSection + k) * item (now (y .entry)) (item (now (numbers .entry)) (opponent + k))) *ℤ itemZ (now (payoffs .entry)) (from + k) ⌝ }
 {
     let s = number(numbers, opponent, k);
-    let weight = number(numbers, Section::CHANCE, k) * number(y, 0, s);
+    let weight = number(numbers, Section::CHANCE, k) * item(y, s);
     weighed(weight as u64, loaded::payoff(payoffs, from, k))
 }
 

@@ -1,11 +1,13 @@
 -- What the leaves that are laid out say of a call that makes the payoff table of them, in rows or in columns.
-use Prim.Native.Nat.{ℕ, zero, suc, _≤_, _<_}
+use Prim.Native.Nat.{ℕ, zero, suc, _+_, _≤_, _<_}
 use mathlib.Core.Path.{_≡_, refl, sym, ap, _∙_, subst}
 use mathlib.Core.Bool.{Bool, true, false}
 use mathlib.Core.List.{List}
 use native.Mathlib.Omega.{arith}
 use lib.Dec.{T, leb, leb→le}
+use lib.IntN.{ℤ}
 use lib.ListN.{length}
+use Rattle.model.specs.Limits.{countLimit}
 use Rattle.model.specs.Game.{gameOf}
 use Rattle.model.specs.Checks.{gameRefusal}
 use Rattle.model.specs.Table.{TableRow, payoffTable}
@@ -16,11 +18,16 @@ use Rattle.checks.specs.declared.Checked.{Checked}
 use Rattle.checks.specs.declared.Checked.the-variants.{Fine, Broken}
 use Rattle.checks.specs.Checked.{checkedOf, numberOf}
 use Rattle.checks.proofs.Chains.{is-broken, fine-holds, broken-fails, call-refuses, call-short, call-gives}
+use Rattle.loaded.specs.Sections.{numbersRoom, payoffsRoom}
 use Rattle.payoff.specs.Table.{Leaves, RowReady, TableLaid}
 use Rattle.rows.specs.declared.TableAnswer.{TableAnswer}
 use Rattle.rows.specs.declared.TableAnswer.the-variants.{Given, Refused}
 use Rattle.rows.specs.Answers.{tableAnswered}
-use Rattle.rows.specs.Rows.{tableAnswer, TableMade, rowsGiven}
+use Rattle.rows.specs.Rows.{Roomy, tableAnswer, TableMade, rowsGiven}
+
+-- there is room in arrays of such lengths
+pub all-roomy : {numbers : List ℕ} {payoffs : List ℤ} {sorted bounds : List ℕ} → length numbers ≡ numbersRoom → length payoffs ≡ payoffsRoom → length sorted ≡ countLimit + 1 → length bounds ≡ countLimit + 1 → Roomy numbers payoffs sorted bounds
+all-roomy e₁ e₂ e₃ e₄ = record { numbers-long = omega arith; payoffs-long = omega arith; sorted-long = omega arith; bounds-long = omega arith }
 
 -- the answer by 18
 module _ (n room : ℕ) {c : Checked} (is : c ≡ checkedOf 18 (leb n room)) where

@@ -113,19 +113,6 @@ module _ {M : Type 1} (𝓤 : URA M) (H : Heap 𝓤) (A : Atoms 𝓤) (W : Given
       use1 W (later (some (λ (γ′ : GName). ‵ (ShrSlice ℓ κ′ R .own (ref l γ′ ys) vals) ⊛ ‵ (flent κ′ (arr-parts (shares R) n .part fullShare ys l 0))))) (shared ℓ κ′ ys e room) $ await ! tt $ pick ! (λ γ′. split ! $
       at-once ! $ show ! (λ (δ : GName). sep 𝓤 (sem 𝓤 H A (ShrSlice ℓ κ′ R .own (ref l δ ys) vals)) (A .lent κ′ (arr-parts (shares R) n .part fullShare ys l 0))) γ′ $ done !))
 
-  -- back once κ is over: the array lies whole
-  pub array-back : (κ : Lft) (γ : GName) (zs : List X) → ent 𝓤 (sep 𝓤 (A .dead κ) (sep 𝓤 (A .lent κ (Held R n l 0 γ)) (sem 𝓤 H A (finally R γ zs)))) (H .⇛ (ex 𝓤 (λ (us : List Val). guard 𝓤 (Is (Array R n) zs (arrayVal us ∷ [])) (H .at fullShare Type′ l 0 (arrayVal us)))))
-  unfolding partOf
-  array-back κ γ zs =
-      qed W (‵ (fdead κ) ∷ ‵ (flent κ (Held R n l 0 γ)) ∷ ‵ (finally R γ zs) ∷ []) ∵ updating ! $
-      use3 W (later (‵ (Arr (mem R) n .lies zs l 0))) (slice-back 𝓤 H A W R κ γ zs n l 0) $ await ! tt $ fsplit ! $ feqL ! (λ size.
-      use1 W (‵ (row R fullShare zs l 0)) (whole-out 𝓤 H A W R zs l 0) $ feqI ! ℕ (length zs) n size $ fjoin ! $
-      use1 W (‵ (partOf (rawAll (Array R n .mir)) (Array R n .own) fullShare zs l 0)) (array-whole 𝓤 H A W R fullShare n zs l 0) $ fpick ! (λ vs. fsplit ! $ move ! (1 ∷ []) $
-      facts ! (Array R n) (Is (Array R n)) (shows 𝓤 H A (Array R n)) zs vs (λ is.
-      rewrite ! 0 (λ (ws : List Val). ‵ (cellAt fullShare (Type′ ∷ []) ws l 0)) (is .1 .0 .0) refl $
-      use1 W (‵ (fat fullShare Type′ l 0 (arrayVal (is .0)))) (W .laws .raw-at fullShare Type′ l 0 (arrayVal (is .0))) $
-      at-once ! $ show ! (λ (us : List Val). guard 𝓤 (Is (Array R n) zs (arrayVal us ∷ [])) (H .at fullShare Type′ l 0 (arrayVal us))) (is .0) $ check ! (subst (Is (Array R n) zs) (is .1 .0 .0) is) $ done !)))
-
   -- room again once κ is over
   pub room-back : (κ : Lft) (ys : List X) → ent 𝓤 (sep 𝓤 (A .dead κ) (A .lent κ (arr-parts (shares R) n .part fullShare ys l 0))) (H .⇛ (H .room Type′ l 0))
   unfolding partOf

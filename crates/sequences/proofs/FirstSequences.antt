@@ -19,9 +19,9 @@ use Rattle.model.proofs.Tree.{bit-tells, bit-below}
 use Rattle.loaded.specs.Sections.{playerSection, movesSection}
 use Rattle.loaded.specs.Sets.{firstSequence}
 use Rattle.loaded.specs.Loaded.{Decoded}
+use Rattle.loaded.proofs.Owners.{bit-read, bit-small}
 use Rattle.sequences.specs.declared.SequenceCounts.{SequenceCounts}
 use Rattle.sequences.specs.Sets.{sequenceCounts}
-use Rattle.sequences.proofs.Nodes.{bit-read, bit-small}
 
 module _ (g : Game) where
   -- the number that the next sequence of the player with bit b gets, after the sets below h

@@ -16,32 +16,26 @@ use Rattle.model.proofs.Tree.{first-in}
 use Rattle.loaded.specs.Sections.{playerSection, firstNodeSection, ownSection}
 use Rattle.loaded.specs.Loaded.{Decoded, NumbersLoaded}
 use Rattle.loaded.specs.declared.Counts.{Counts}
+use Rattle.loaded.proofs.Owners.{player-read}
 use Rattle.loaded.proofs.Rooted.{rules-rooted}
 use Rattle.sequences.specs.Recall.{OwnStored, OwnFilled}
-use Rattle.sequences.proofs.OwnSets.{set-player}
-use Rattle.sequences.proofs.Nodes.{bit-read}
 use Rattle.sequences.proofs.Stored.{stored-none}
 
 -- a set's first node is a node, where check 12 has passed
-pub first-below : (g : Game) → T (setsNonEmpty g) → (h : ℕ) → h < g .sets → firstNode g h < g .nodes
+first-below : (g : Game) → T (setsNonEmpty g) → (h : ℕ) → h < g .sets → firstNode g h < g .nodes
 unfolding firstNode
 first-below g t h l = let n = set-node-iff g .holds t h l in firstTo-found (g .nodes) (inSet g h) (n .0) (n .1) (n .2) .1
 
 -- The bit and the first node of set h are read.
-module _ {g : Game} {l : List ℕ} (D : Decoded g l) {h b : ℕ} (v : h < g .sets) (e : b ≡ item l (playerSection + h)) where
-  -- the bit tells the player
-  pub player-read : playerOf b ≡ g .setPlayer h
-  player-read = sym (set-player g h b (sym (bit-read D v e)))
+module _ {g : Game} {l : List ℕ} (D : Decoded g l) {h b first : ℕ} (v : h < g .sets) (e : b ≡ item l (playerSection + h)) (F : Held firstNodeSection (firstNode g) (g .sets) l) (f : first ≡ item l (firstNodeSection + h)) where
+  -- the first node
+  pub first-read : first ≡ firstNode g h
+  first-read = f ∙ F .at 0 h v
 
-  module _ {first : ℕ} (F : Held firstNodeSection (firstNode g) (g .sets) l) (f : first ≡ item l (firstNodeSection + h)) where
-    -- the first node
-    pub first-read : first ≡ firstNode g h
-    first-read = f ∙ F .at 0 h v
-
-    -- the player's own number there is that of the sequence that leads to the set
-    pub leading-is : {r : ℕ} → r ≡ ownNumber g (playerOf b) first → r ≡ leadingNumber g h
-    unfolding ownNumber leading leadingNumber
-    leading-is r = r ∙ rw (player-read, first-read)
+  -- the player's own number there is that of the sequence that leads to the set
+  pub leading-is : {r : ℕ} → r ≡ ownNumber g (playerOf b) first → r ≡ leadingNumber g h
+  unfolding ownNumber leading leadingNumber
+  leading-is r = r ∙ rw (player-read D v e, first-read)
 
 -- What is read of set h where own numbers are stored.
 module _ {g : Game} {l : List ℕ} (F : OwnFilled g l) {h b own : ℕ} (v : h < g .sets) (e : b ≡ item l (playerSection + h)) (o : own ≡ ownSection (playerOf b)) where

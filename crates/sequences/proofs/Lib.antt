@@ -4,6 +4,5 @@ mod FirstSequences
 mod Leading
 mod Nodes
 mod Own
-pub mod OwnSets
 mod Recalls
 pub mod Stored

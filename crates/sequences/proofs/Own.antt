@@ -14,6 +14,7 @@ use Rattle.model.proofs.Tree.{owner, acts-parts, own-root, own-step}
 use Rattle.loaded.specs.Sections.{parentSection, placeSection, startSection, ownSection}
 use Rattle.loaded.specs.Rooted.{Rooted}
 use Rattle.loaded.specs.Sets.{firstSequence}
+use Rattle.loaded.proofs.NodeReads.{parent-read, place-read}
 use Rattle.sequences.specs.Recall.{OwnStored}
 use Rattle.sequences.proofs.Nodes.{Decision}
 
@@ -48,7 +49,7 @@ module _ (g : Game) (R : Rooted g) (p : Player) where
 module _ {g : Game} {p : Player} {stored : ℕ} {l : List ℕ} (S : OwnStored g p stored l) {n up : ℕ} (z : ¬ (n ≡ 0)) (v : n < g .nodes) (e : up ≡ item l (parentSection + n)) where
   -- it is the node's parent
   parent-is : up ≡ g .parent n
-  parent-is = e ∙ S .decoded .nodes-decoded .parents .at 0 n v
+  parent-is = e ∙ parent-read (S .decoded) v
 
   -- and comes before it
   pub parent-below : up < n
@@ -61,7 +62,7 @@ module _ {g : Game} {p : Player} {stored : ℕ} {l : List ℕ} (S : OwnStored g 
   pub number-made : {h start place : ℕ} → Decision g up h → T (acts g p up) → start ≡ item l (startSection + h) → place ≡ item l (placeSection + n) → start + place ≡ ownNumber g p n
   number-made {h} {start} {place} D moves s m =
       let a : start ≡ firstSequence g (g .nodeSet (g .parent n)) = s ∙ S .starts .at 0 h (D .below) ∙ ap (firstSequence g) (D .set) ∙ ap (λ (k : ℕ). firstSequence g (g .nodeSet k)) parent-is in
-      let c : place ≡ g .move n = m ∙ S .decoded .nodes-decoded .places .at 0 n v in
+      let c : place ≡ g .move n = m ∙ place-read (S .decoded) v in
       omega (arith, a, c, number-here g (S .rooted) p n z v (rw parent-is at moves))
 
   -- where p does not move there

@@ -8,15 +8,15 @@ use Rattle.algebra.specs.Sections.{Held, Apart}
 use Rattle.algebra.proofs.Sections.{held-none, held-more, held-before, apart-none, apart-set}
 use Rattle.model.specs.Game.{Game, Player, one, two}
 use Rattle.model.specs.Table.{ownNumber}
-use Rattle.loaded.specs.Sections.{startSection, ownSection, leadSection}
+use Rattle.loaded.specs.Sections.{sectionRoom, startSection, ownSection, leadSection}
 use Rattle.loaded.specs.Rooted.{Rooted}
 use Rattle.loaded.specs.Sets.{firstSequence}
 use Rattle.loaded.specs.Loaded.{Decoded}
-use Rattle.loaded.proofs.Decoded.{decoded-apart}
+use Rattle.loaded.proofs.Decoded.{decoded-apart, own-apart}
 use Rattle.sequences.specs.Recall.{OwnStored, OwnFilled}
 
 -- where a player's own numbers begin
-pub own-range : (p : Player) → (36864 ≤ ownSection p) × (ownSection p ≤ 40960)
+pub own-range : (p : Player) → (ownSection one ≤ ownSection p) × (ownSection p ≤ ownSection two)
 own-range one = (omega arith, omega arith)
 own-range two = (omega arith, omega arith)
 
@@ -28,7 +28,7 @@ stored-none D R S p = record { decoded = D; rooted = R; starts = S; own = held-n
 pub stored-more : {g : Game} {p : Player} {n : ℕ} {l k : List ℕ} (own x : ℕ) → OwnStored g p n l → n < g .nodes → own ≡ ownSection p → k ≡ set l (own + n) x → x ≡ ownNumber g p n → OwnStored g p (n + 1) k
 stored-more {p = p} {n} {l} {k} own x S v e s is =
     let q : k ≡ set l (ownSection p + n) x = s ∙ rw e in
-    let a : Apart (ownSection p) (ownSection p + 4096) l k = apart-set (ownSection p + n) x apart-none q (omega arith) (omega (arith, S .decoded .few-nodes)) in
+    let a : Apart (ownSection p) (ownSection p + sectionRoom) l k = apart-set (ownSection p + n) x apart-none q (omega arith) (omega (arith, S .decoded .few-nodes)) in
     record {
       decoded = decoded-apart (S .decoded) a (omega (arith, own-range p));
       rooted = S .rooted;
@@ -43,5 +43,5 @@ filled-apart F a b = record {
   rooted = F .rooted;
   sets-non-empty = F .sets-non-empty;
   first-nodes = held-before (F .first-nodes) a (omega (arith, F .decoded .few-sets));
-  own = λ p. held-before (F .own p) a (omega (arith, own-range p, F .decoded .few-nodes));
+  own = own-apart _ (F .own) a b (F .decoded .few-nodes);
 }

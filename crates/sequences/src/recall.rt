@@ -7,25 +7,13 @@ ghost use Rattle.model.specs.Sequences.{leadingNumber};
 ghost use Rattle.model.specs.Table.{ownNumber};
 ghost use Rattle.model.specs.GameChecks.{perfectRecall};
 ghost use Rattle.checks.specs.Checked.{checkedOf};
-ghost use Rattle.loaded.specs.Sections.{ownSection};
+ghost use Rattle.loaded.specs.Sections.{sectionRoom, ownSection};
 ghost use Rattle.sequences.specs.Sets.{Numberable};
 ghost use Rattle.sequences.specs.Recall.{OwnStored, OwnFilled, recallTest};
 use super::DECISION;
 use checks::Checked;
 use loaded::Section;
 use records::NodeRecord;
-
-// Where the numbers of a player's own sequences begin.
-pub fn own_section(player: usize) -> usize
-    requires { ⌜ player < 2 ⌝ }
-    ensures { λ r. ⌜ r ≡ ownSection (playerOf player) ⌝ }
-{
-    if player == 0 {
-        Section::OWN1
-    } else {
-        Section::OWN2
-    }
-}
 
 // The last own move of a player on the walk from node `n` to the root, by the number of the sequence that it ends; 0 where there is none.
 // It is the one at the parent, or else the parent's. Those of the first `stored` nodes are known: the walk ends at the first of them that it meets.
@@ -48,7 +36,7 @@ pub fn last_own_move(numbers: &[u16], player: usize, stored: usize, n: usize) ->
         }
     }
     if parent < stored {
-        return loaded::number(numbers, own_section(player), parent);
+        return loaded::number(numbers, loaded::own_section(player), parent);
     }
     last_own_move(numbers, player, stored, parent)
 }
@@ -56,9 +44,9 @@ pub fn last_own_move(numbers: &[u16], player: usize, stored: usize, n: usize) ->
 // The number of a player's own sequence to each node: with those of all earlier nodes stored, one step each.
 pub fn own_numbers(numbers: &mut [u16], nodes: usize, player: usize)
     requires { ⌜ ((g : Game) × (nodes ≡ g .nodes) × (player < 2) × Numberable g × OwnStored g (playerOf player) 0 (now numbers)) ⌝ }
-    ensures { λ _. ⌜ ((g : Game) → nodes ≡ g .nodes → OwnStored g (playerOf player) 0 (now (numbers .entry)) → Held (ownSection (playerOf player)) (ownNumber g (playerOf player)) (g .nodes) (now (numbers .exit))) × Apart (ownSection (playerOf player)) (ownSection (playerOf player) + 4096) (now (numbers .entry)) (now (numbers .exit)) ⌝ }
+    ensures { λ _. ⌜ ((g : Game) → nodes ≡ g .nodes → OwnStored g (playerOf player) 0 (now (numbers .entry)) → Held (ownSection (playerOf player)) (ownNumber g (playerOf player)) (g .nodes) (now (numbers .exit))) × Apart (ownSection (playerOf player)) (ownSection (playerOf player) + sectionRoom) (now (numbers .entry)) (now (numbers .exit)) ⌝ }
 {
-    let section = own_section(player);
+    let section = loaded::own_section(player);
     let mut n = 0;
     while n < nodes {
         let own = last_own_move(numbers, player, n, n);
@@ -74,7 +62,7 @@ pub fn lead_of(numbers: &[u16], h: usize) -> usize
 {
     let player = loaded::number(numbers, Section::PLAYER, h);
     let first = loaded::number(numbers, Section::FIRST_NODE, h);
-    loaded::number(numbers, own_section(player), first)
+    loaded::number(numbers, loaded::own_section(player), first)
 }
 
 // Whether node `n`, where it is a decision, has the own sequence number of its set's first node, by the set's player.
@@ -86,7 +74,7 @@ fn recalls(numbers: &[u16], n: usize) -> bool
     if kind == DECISION {
         let set = loaded::number(numbers, Section::PAYLOAD, n);
         let player = loaded::number(numbers, Section::PLAYER, set);
-        let own = loaded::number(numbers, own_section(player), n);
+        let own = loaded::number(numbers, loaded::own_section(player), n);
         let lead = lead_of(numbers, set);
         return own == lead;
     }

@@ -1,7 +1,5 @@
 // Information sets: their first nodes, the numbers of their first sequences and of those that lead to them, and check 12.
 ghost use mathlib.Core.Path.{_≡_};
-ghost use Prim.Native.Nat.{_+_, _≤_, _<_};
-ghost use lib.ListN.{length};
 ghost use Rattle.algebra.specs.Sections.{Held, Apart};
 ghost use Rattle.model.specs.Game.{Game, one};
 ghost use Rattle.model.specs.Sequences.{firstNode, leadingNumber};
@@ -19,24 +17,12 @@ use super::recall;
 use checks::Checked;
 use loaded::Section;
 
-// Puts `value` into the first `count` places of the section that begins at `section`.
-fn fill(numbers: &mut [u16], section: usize, count: usize, value: usize)
-    requires { ⌜ (section + count ≤ length (now numbers)) × (value < 65536) ⌝ }
-    ensures { λ _. ⌜ Held section (λ i. value) count (now (numbers .exit)) × Apart section (section + count) (now (numbers .entry)) (now (numbers .exit)) ⌝ }
-{
-    let mut i = 0;
-    while i < count {
-        loaded::put(numbers, section, i, value);
-        i += 1;
-    }
-}
-
 // The first node of each set, by one pass from the last node to the first; N where a set has none.
 pub fn first_nodes(numbers: &mut [u16], nodes: usize, sets: usize)
     requires { ⌜ RootedIn nodes sets (now numbers) ⌝ }
     ensures { λ _. ⌜ ((g : Game) → nodes ≡ g .nodes → sets ≡ g .sets → Decoded g (now (numbers .entry)) → Rooted g → Held firstNodeSection (firstNode g) (g .sets) (now (numbers .exit))) × Apart firstNodeSection startSection (now (numbers .entry)) (now (numbers .exit)) ⌝ }
 {
-    fill(numbers, Section::FIRST_NODE, sets, nodes);
+    loaded::fill(numbers, Section::FIRST_NODE, sets, nodes);
     let mut left = nodes;
     while 0 < left {
         left -= 1;

@@ -1,7 +1,7 @@
 -- Columns filled row by row from the leaves are what the call in columns leaves.
 use Prim.Native.Nat.{ℕ, _≤_, _<_}
 use mathlib.Core.Path.{_≡_, refl, sym, ap, _∙_}
-use mathlib.Core.Bool.{_&&_}
+use mathlib.Core.Bool.{_&&_, and-true}
 use mathlib.Core.List.{List, [], _∷_, map}
 use native.Mathlib.Omega.{arith}
 use mir.Facts.{and-yes, yes-and}
@@ -31,6 +31,10 @@ first-shorter a b l n = bool-same (leb n a) (leb n a && leb n b) (λ t. yes-and 
 
 pub second-shorter : (a b : ℕ) → b < a → (n : ℕ) → leb n b ≡ (leb n a && leb n b)
 second-shorter a b l n = bool-same (leb n b) (leb n a && leb n b) (λ t. yes-and (leb n a) (leb n b) (le→leb n a (omega (arith, leb→le n b t))) t) (λ t. and-yes (leb n a) (leb n b) t .1)
+
+-- so much fits the shortest of four lengths, the last two being compared first, as fits each
+pub shortest-of-four : (n a b c d last three all : ℕ) → leb n last ≡ (leb n c && leb n d) → leb n three ≡ (leb n b && leb n last) → leb n all ≡ (leb n a && leb n three) → leb n all ≡ longEnough (n ∷ n ∷ n ∷ n ∷ []) (a ∷ b ∷ c ∷ d ∷ [])
+shortest-of-four n a b c d last three all e f h = h ∙ rw (f, e, and-true (leb n d))
 
 -- what fits the shortest of four fits each of them
 pub all-long : (a b c d room : ℕ) → ((n : ℕ) → leb n room ≡ longEnough (n ∷ n ∷ n ∷ n ∷ []) (a ∷ b ∷ c ∷ d ∷ [])) → (n : ℕ) → n ≤ room → (n ≤ a) × (n ≤ b) × (n ≤ c) × (n ≤ d)

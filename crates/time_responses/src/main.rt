@@ -5,7 +5,7 @@ ghost use Prim.Native.Nat.{_≤_};
 ghost use Rattle.responses.specs.Responses.{ResponseAsked};
 use loaded::Counts;
 use loaded::Section;
-use plan::PairAnswer;
+use pair::PairAnswer;
 use records::NodeRecord;
 use trials::ROOM;
 use trials::load;
@@ -48,7 +48,7 @@ fn run(game: &[u8], plan: &[u8], times: usize) {
     let mut payoffs = [0i16; Section::PAYOFFS];
     let mut x = [0u16; NodeRecord::NODES];
     let mut y = [0u16; NodeRecord::NODES];
-    let answer = plan::pair::read(game, plan, &mut numbers, &mut payoffs, &mut x, &mut y);
+    let answer = pair::read(game, plan, &mut numbers, &mut payoffs, &mut x, &mut y);
     let PairAnswer::Fits(pair) = answer else {
         say(b"refused\n");
         return;

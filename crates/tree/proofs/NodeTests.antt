@@ -4,20 +4,16 @@ use mathlib.Core.Path.{_≡_, refl, sym, _∙_}
 use mathlib.Core.Bool.{Bool, true, false, not, _&&_, cond}
 use native.Mathlib.Omega.{arith}
 use lib.Dec.{T, eqb, ltb}
-use borrow.Author.Tests.{ne-eqb, lt-ltb, le-ltb}
+use borrow.Author.Tests.{lt-ltb, le-ltb}
 use Rattle.algebra.specs.Bounded.{implies}
 use Rattle.model.specs.Game.{Game, isLeaf, isDecision, isChance, nodeMoves}
 use Rattle.model.specs.GameChecks.{isMoveCount, payloadInRange, payloadsInRange, attached}
 use Rattle.model.proofs.Tree.{leaf-moves}
 use Rattle.model.proofs.GameRules.{payloads-iff}
 use Rattle.loaded.specs.Sets.{payloadNumber}
+use Rattle.loaded.proofs.NodeReads.{neither}
 use Rattle.tree.specs.Games.{SetThere}
 use Rattle.tree.specs.Tests.{inRange}
-
--- a kind from 3 on is no decision and no chance node
-neither : (k : ℕ) (a b : Bool) → (implies (eqb (suc (suc (suc k))) 1) a && implies (eqb (suc (suc (suc k))) 2) b) ≡ true
-unfolding implies
-neither k a b = rw (ne-eqb (suc (suc (suc k))) 1 (λ e. omega arith), ne-eqb (suc (suc (suc k))) 2 (λ e. omega arith))
 
 -- each kind's number is the one that its test asks for
 ranged : (sets set moves kind : ℕ) → inRange kind (cond (eqb kind 1) set (cond (eqb kind 2) moves 0)) sets ≡ (implies (eqb kind 1) (ltb set sets) && implies (eqb kind 2) (isMoveCount moves))

@@ -1,4 +1,3 @@
-pub mod EvaluatedPairs
 pub mod Showing
 pub mod Strategies
 pub mod ValuesAnswered

@@ -12,12 +12,12 @@ use Rattle.model.specs.calls.Values.{PairValues, call, valuesCall}
 use Rattle.model.proofs.Checks.{pair-named}
 use Rattle.checks.proofs.Chains.{call-refuses, call-gives}
 use Rattle.checks.proofs.Files.{pair-refuses, pair-fine}
-use Rattle.plan.specs.declared.PairHeader.{PairHeader}
-use Rattle.plan.proofs.Pairs.{PairOpened}
+use Rattle.pair.specs.declared.PairHeader.{PairHeader}
+use Rattle.pair.proofs.Pairs.{PairOpened}
 use Rattle.form.specs.declared.Values.{Values}
 use Rattle.form.specs.Values.{valuesOf}
-use Rattle.plan.proofs.PairDenominators.{d1-is, d2-is}
-use Rattle.verdict.proofs.EvaluatedPairs.{weight-is}
+use Rattle.pair.proofs.PairDenominators.{d1-is, d2-is}
+use Rattle.evaluation.proofs.EvaluatedPairs.{weight-is}
 
 module _ (game plan : List ℕ) where
   abbrev answer : Outcome [] PairValues → Answer PairValues

@@ -34,8 +34,8 @@ use Rattle.model.proofs.calls.Verdict.{demand3}
 use Rattle.checks.proofs.Chains.{begin, ends, call-refuses, call-gives, same-run}
 use Rattle.checks.proofs.Files.{pair-refuses, pair-fine}
 use Rattle.loaded.specs.Sections.{playerSection}
-use Rattle.plan.specs.declared.PairHeader.{PairHeader}
-use Rattle.plan.proofs.Pairs.{PairOpened}
+use Rattle.pair.specs.declared.PairHeader.{PairHeader}
+use Rattle.pair.proofs.Pairs.{PairOpened}
 use Rattle.form.specs.declared.Values.{Values}
 use Rattle.responses.specs.BestMoves.{ownBestMove}
 use Rattle.form.specs.Values.{valuesOf}
@@ -44,9 +44,9 @@ use Rattle.judgement.specs.declared.Verdict.the-variants as Numbers
 use Rattle.judgement.specs.Judgement.{judged, GainFits}
 use Rattle.verdict.specs.Showing.{showing, ShowAsked}
 use Rattle.judgement.proofs.Judgement.{numbered, withoutMoves, judged-is, gains-fit, says-deviation}
-use Rattle.verdict.proofs.EvaluatedPairs.{weight-is, sets-are}
+use Rattle.evaluation.proofs.EvaluatedPairs.{weight-is, sets-are}
 use Rattle.verdict.proofs.Strategies.{strategy-is}
-use Rattle.plan.proofs.PairDenominators.{d1-is, d2-is}
+use Rattle.pair.proofs.PairDenominators.{d1-is, d2-is}
 
 module _ (game plan buffer : List ℕ) where
   -- what the call ensures of an outcome

@@ -1,16 +1,6 @@
 // The calls on a pair of files: values and best values, and the verdict.
-use form::Values;
-use plan::PairHeader;
-
-pub mod pairs;
 pub mod values;
 pub mod verdicts;
-
-// What was read and evaluated of a pair; a refusal is 1 to 16.
-pub enum PairEvaluated {
-    Evaluated { pair: PairHeader, values: Values },
-    Refused(u64),
-}
 
 // The players' values over D0 × D1 × D2, their best values over D0 × the other's D, and D0, D1 and D2; a refusal is 1 to 16.
 pub enum ValuesAnswer {

@@ -2,9 +2,8 @@
 ghost use mathlib.Core.Path.{_≡_};
 ghost use Rattle.model.specs.calls.Values.{valuesCall};
 ghost use Rattle.verdict.specs.Answers.{valuesAnswered};
-use super::PairEvaluated;
 use super::ValuesAnswer;
-use super::pairs;
+use evaluation::PairEvaluated;
 use loaded::Section;
 use records::NodeRecord;
 
@@ -16,7 +15,7 @@ pub fn values(game: &[u8], plan: &[u8]) -> ValuesAnswer
     let mut payoffs = [0i16; Section::PAYOFFS];
     let mut moves1 = [0u16; NodeRecord::NODES];
     let mut moves2 = [0u16; NodeRecord::NODES];
-    let evaluated = pairs::evaluate(
+    let evaluated = evaluation::evaluate(
         game,
         plan,
         &mut numbers,
@@ -25,7 +24,7 @@ pub fn values(game: &[u8], plan: &[u8]) -> ValuesAnswer
         &mut moves2,
     );
     let PairEvaluated::Evaluated { pair, values } = evaluated else {
-        return ValuesAnswer::Refused(pairs::refusal(evaluated));
+        return ValuesAnswer::Refused(evaluation::refusal(evaluated));
     };
     ValuesAnswer::Given {
         value1: values.value1,

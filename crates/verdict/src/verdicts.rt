@@ -15,15 +15,14 @@ ghost use Rattle.loaded.specs.Sections.{playerSection};
 ghost use Rattle.judgement.specs.Judgement.{judged, GainFits};
 ghost use Rattle.verdict.specs.Answers.{verdictAnswered};
 ghost use Rattle.verdict.specs.Showing.{showing, ShowAsked};
-use super::PairEvaluated;
 use super::VerdictAnswer;
-use super::pairs;
 use checks::Checked;
+use evaluation::PairEvaluated;
 use form::Values;
 use judgement::Verdict;
 use judgement::strategy;
 use loaded::Section;
-use plan::PairHeader;
+use pair::PairHeader;
 use records::Denominators;
 use records::NodeRecord;
 
@@ -88,7 +87,7 @@ pub fn verdict(game: &[u8], plan: &[u8], moves: &mut [u64]) -> VerdictAnswer
     let mut payoffs = [0i16; Section::PAYOFFS];
     let mut moves1 = [0u16; NodeRecord::NODES];
     let mut moves2 = [0u16; NodeRecord::NODES];
-    let evaluated = pairs::evaluate(
+    let evaluated = evaluation::evaluate(
         game,
         plan,
         &mut numbers,
@@ -97,7 +96,7 @@ pub fn verdict(game: &[u8], plan: &[u8], moves: &mut [u64]) -> VerdictAnswer
         &mut moves2,
     );
     let PairEvaluated::Evaluated { pair, values } = evaluated else {
-        return VerdictAnswer::Refused(pairs::refusal(evaluated));
+        return VerdictAnswer::Refused(evaluation::refusal(evaluated));
     };
     let counts = pair.counts;
     let sets = counts.sets;

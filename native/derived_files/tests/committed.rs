@@ -1,6 +1,6 @@
 //! The committed files are those that the sources give.
 
-use derived_files::{all, edits, exports, read, repository, source, COMMAND, EXPORTS_CRATE};
+use derived_files::{all, edits, exports, read, repository, source, COMMAND};
 use std::fs;
 
 #[test]
@@ -17,17 +17,28 @@ fn the_committed_files_are_current() {
     }
 }
 
-/// As the page says of them.
+/// As the page says of them: an export hands all that it is lent to the function that decides its
+/// answer, which has its edits.
 #[test]
 fn each_export_has_two_edits() {
     let repository = repository();
     let edits = edits::read_all(&repository).unwrap();
-    for export in exports::read(&read(&repository.join(source())).unwrap()).unwrap() {
-        let subject = format!("`{}`", export.name);
+    let source = read(&repository.join(source())).unwrap();
+    for export in exports::read(&source).unwrap() {
+        let function = export.name.trim_start_matches("desk_");
+        let (subject, of_crate) = (format!("`{function}`"), decided_in(&source, function));
         let ours = edits.iter().filter(|edit| {
             let mut subjects = edit.notes.subjects.iter();
-            edit.of_crate == EXPORTS_CRATE && subjects.any(|of| of.name == subject)
+            edit.of_crate == of_crate && subjects.any(|of| of.name == subject)
         });
         assert!(ours.count() >= 2, "{}", export.name);
     }
+}
+
+/// The crate of the function that the exports call by this name.
+fn decided_in<'a>(source: &'a str, function: &str) -> &'a str {
+    let call = source.find(&format!("::{function}("));
+    let before = &source[..call.unwrap_or_else(|| panic!("nothing calls {function}"))];
+    let begin = before.rfind(char::is_whitespace);
+    &before[begin.map_or(0, |space| space + 1)..]
 }

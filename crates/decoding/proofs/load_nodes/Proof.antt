@@ -11,7 +11,7 @@ use Rattle.model.proofs.Budget.{game-limits}
 use Rattle.checks.proofs.Passes.{Passed, passed-none, passed-more, passed-false, passed-true}
 use Rattle.records.proofs.Headers.{header-nodes, header-records}
 use Rattle.loaded.proofs.Gathered.{count-all}
-use Rattle.decoding.proofs.Rows.{filled-none}
+use Rattle.decoding.proofs.Filled.{filled-none}
 use Rattle.decoding.proofs.Nodes.{wellFormedAt, well-formed-is, payload-fits, NodesPut, nodes-more, nodes-decoded, PayoffsPut, payoffs-none, payoffs-few, payoffs-more, payoffs-loaded, nodes-refused, nodes-counted}
 use Rattle.decoding.proofs.load_nodes.Statement.{statement}
 use Rattle.decoding.proofs.load_nodes.Tie as tie
@@ -57,13 +57,12 @@ loop-again : tie.Need-loop-again Inv-loop μ-loop
 loop-again c =
     let i = c .before .before .before .before .before .before .before .before .before .before .before .loop .inv in
     let R = c .before .before .before .before .before .before .before .before .before .read .ensures in
-    let s = c .before .before .before .before .before .before .before .before .before .before .before .before .before .before in
     let v = turn (c .before .before .before .before .before .before .before .before .before .before) in
     let w = small (c .before .before .before .before .before .before .before .before .before .before) in
     let p = c .before .put-leaf .ensures in (
       passed-more _ _ _ _ (i .0) v (made (c .before .before .before .before .before .before .before .before)) (c .before .before .before .before .before .before .before .if1 .taken),
-      nodes-more _ _ _ R (i .1) (s .pre .1) (omega (arith, w)) (c .before .before .before .before .before .put-node .ensures),
-      payoffs-more _ _ _ R (i .2) (s .pre .2) v (omega (arith, w)) (p .0) (p .1),
+      nodes-more _ _ _ R (i .1) (omega (arith, w)) (c .before .before .before .before .before .put-node .ensures),
+      payoffs-more _ _ _ R (i .2) v (omega (arith, w)) (p .0) (p .1),
     )
 
 failed : tie.Need-returns Inv-loop μ-loop
@@ -86,8 +85,8 @@ all c =
     record {
       answer = nodes-counted _ (passed-true _ _ _ (i .0) (omega (arith, e))) (count-all _ _ _ (i .2 .counted) e);
       apart = i .1 .apart;
-      decoded = λ t. nodes-decoded (i .1) (s .pre .1) e (omega (arith, e, game-limits (s .args .bytes .now) .nodes));
-      by-leaf = λ t. payoffs-loaded (i .2) e;
+      decoded = λ t. nodes-decoded (i .1) e (omega (arith, e, game-limits (s .args .bytes .now) .nodes));
+      by-leaf = λ t. payoffs-loaded (i .2) e (omega (arith, e, game-limits (s .args .bytes .now) .nodes));
     }
 
 pub load-nodes-spec : {M : Type 1} → statement M
@@ -96,7 +95,7 @@ load-nodes-spec =
     (tie.spec
     Inv-loop
     μ-loop
-    (λ c. (passed-none _ _, filled-none, payoffs-none (c .before .before .pre .2)))
+    (λ c. (passed-none _ _, filled-none (omega (arith, c .before .before .pre .1)), payoffs-none (c .before .before .pre .2)))
     (λ c κs. (header-records _ _ (c .before .before .before .before .pre .0), omega (arith, small c)))
     (λ c κs. search needs)
     put-node-requires

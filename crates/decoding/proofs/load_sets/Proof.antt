@@ -8,7 +8,7 @@ use Rattle.model.specs.Game.{gameOf}
 use Rattle.model.specs.GameChecks.{isMoveCount, setMovesInRange}
 use Rattle.checks.proofs.Passes.{Passed, passed-none, passed-more, passed-false, passed-not, passed-all}
 use Rattle.records.proofs.Widths.{few-sets}
-use Rattle.decoding.proofs.Rows.{filled-none}
+use Rattle.decoding.proofs.Filled.{filled-none}
 use Rattle.decoding.proofs.Entries.{SetsPut, sets-more, sets-decoded}
 use Rattle.decoding.proofs.load_sets.Statement.{statement}
 use Rattle.decoding.proofs.load_sets.Tie as tie
@@ -38,7 +38,7 @@ loop-again : tie.Need-loop-again Inv-loop μ-loop
 loop-again c =
     let i = c .before .before .before .before .before .before .before .before .loop .inv in (
       passed-more _ _ _ _ (i .0) (omega arith) (made (c .before .before .before .before .before)) (c .before .before .before .before .if1 .taken),
-      sets-more _ _ _ (i .1) (c .before .before .before .before .before .before .before .before .before .before .before .pre .1) (omega (arith, small (c .before .before .before .before .before .before .before))) (c .before .before .before .before .before .before .read .ensures) (c .before .before .put-entry .ensures),
+      sets-more _ _ _ (i .1) (omega (arith, small (c .before .before .before .before .before .before .before))) (c .before .before .before .before .before .before .read .ensures) (c .before .before .put-entry .ensures),
     )
 
 failed : tie.Need-returns Inv-loop μ-loop
@@ -57,7 +57,7 @@ all c =
     record {
       answer = passed-all _ _ _ _ (i .0) (omega arith);
       apart = i .1 .apart;
-      decoded = λ t. sets-decoded (i .1) (s .pre .1) (omega (arith, i .0 .0)) (omega (arith, i .0 .0, few-sets (s .args .bytes .now)));
+      decoded = λ t. sets-decoded (i .1) (omega (arith, i .0 .0)) (omega (arith, i .0 .0, few-sets (s .args .bytes .now)));
     }
 
 pub load-sets-spec : {M : Type 1} → statement M
@@ -66,7 +66,7 @@ load-sets-spec =
     (tie.spec
     Inv-loop
     μ-loop
-    (λ c. (passed-none _ _, filled-none))
+    (λ c. (passed-none _ _, filled-none (omega (arith, c .before .before .pre .1))))
     (λ c κs. omega (arith, small c))
     (λ c κs. search needs)
     put-entry-requires

@@ -14,7 +14,7 @@ returns c =
     let payoff = c .before .payoff in
     toZ-ofZ {w = w64} {z = c .weighed .result} (record { sfits = c .weighed .ok })
     ∙ weighed-is (c .weighed .ensures)
-    (pair-weight (a .x .now) (a .y .now) (c .before .before .before .before .before .before .before .number .ensures .0) (c .before .before .before .before .before .number3 .ensures .0) (c .before .before .before .before .before .before .number2 .ensures .0) (c .before .before .before .number5 .ensures .0) (c .before .before .before .before .number4 .ensures .0) (c .before .before .product .ensures .0))
+    (pair-weight (a .x .now) (a .y .now) (c .before .before .before .before .before .before .before .number .ensures .0) (c .before .before .before .before .before .item .ensures .0) (c .before .before .before .before .before .before .number2 .ensures .0) (c .before .before .before .item2 .ensures .0) (c .before .before .before .before .number3 .ensures .0) (c .before .before .product .ensures .0))
     (toZ-ofZ {w = w16} {z = payoff .result} (record { sfits = payoff .ok }) ∙ payoff .ensures)
 
 pub pair-term-spec : {M : Type 1} → statement M

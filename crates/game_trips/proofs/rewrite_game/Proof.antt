@@ -1,6 +1,8 @@
 -- What is read is written again.
 use mathlib.Core.Path.{refl, sym}
 use native.Mathlib.Omega.{arith}
+use native.Mathlib.Nat.{le-refl}
+use Rattle.model.specs.Limits.{countLimit}
 use Rattle.model.specs.Demand2.{IsBytes}
 use Rattle.game_trips.proofs.Games.{rewrite-refused, Read, read-given, rewrite-given, fronts-stand}
 use Rattle.game_trips.proofs.rewrite_game.Statement.{statement}
@@ -9,16 +11,16 @@ use Rattle.game_trips.proofs.rewrite_game.Tie as tie
 refused : tie.Need-returns
 refused c =
     rewrite-refused _ _ (c .before .before .before .before .before .before .before .before .before .before .before .before .before .game-fields .ensures) (c .before .enum-told .given .1) (c .refusal .ensures) (record {
-      setPlayers = omega arith;
-      setMoves = omega arith;
-      kinds = omega arith;
-      parents = omega arith;
-      moves = omega arith;
-      weights = omega arith;
-      nodeSets = omega arith;
-      chanceMoves = omega arith;
-      payoffs1 = omega arith;
-      payoffs2 = omega arith;
+      setPlayers = le-refl countLimit;
+      setMoves = le-refl countLimit;
+      kinds = le-refl countLimit;
+      parents = le-refl countLimit;
+      moves = le-refl countLimit;
+      weights = le-refl countLimit;
+      nodeSets = le-refl countLimit;
+      chanceMoves = le-refl countLimit;
+      payoffs1 = le-refl countLimit;
+      payoffs2 = le-refl countLimit;
     })
 
 -- a lent slice of u8 holds bytes

@@ -1,6 +1,5 @@
 -- Ten parts are lent to the writer.
 use mathlib.Core.Path.{sym}
-use borrow.Author.Needs.{needs}
 use lib.Seq.{length-take-le}
 use Rattle.game_trips.proofs.write_fronts.Statement.{statement}
 use Rattle.game_trips.proofs.write_fronts.Tie as tie
@@ -22,6 +21,6 @@ write-fronts-spec =
     (λ c. sym (length-take-le _ _ (c .before .before .before .before .before .before .before .before .before .before .before .before .before .before .before .before .before .pre .7)))
     (λ c. sym (length-take-le _ _ (c .before .before .before .before .before .before .before .before .before .before .before .before .before .before .before .before .before .before .pre .8)))
     (λ c. sym (length-take-le _ _ (c .before .before .before .before .before .before .before .before .before .before .before .before .before .before .before .before .before .before .before .pre .9)))
-    (λ c κs. search needs)
-    (λ c. search needs)
+    (λ c κs. tt)
+    (λ c. c .before .before .write .kept .1 .1 .1 .1 .1 .1 .1 .1 .1 .1 .1 .0)
     written)

@@ -1,8 +1,9 @@
 -- The game's refusal comes first, then 17; an accepted game is loaded, with all that the look-up asks for.
-use borrow.Author.Needs.{needs}
-use mathlib.Core.Path.{ap, _∙_}
+use native.Mathlib.Nat.{le-refl}
+use mathlib.Core.Path.{refl, sym, ap, _∙_}
 use native.Mathlib.Omega.{arith}
 use Prim.Native.Nat.{_<_}
+use Rattle.loaded.specs.Sections.{numbersRoom, payoffsRoom}
 use Rattle.model.specs.Call.{given}
 use Rattle.model.specs.Game.{gameOf}
 use Rattle.model.specs.calls.OwnSequence.{call}
@@ -48,19 +49,19 @@ pub own-sequence-spec : {M : Type 1} → statement M
 own-sequence-spec =
     tie.close
     (tie.spec
-    (λ c. search needs)
-    (λ c. search needs)
-    (λ c κs. search needs)
-    (λ c. search needs)
-    (λ c. search needs)
-    (λ c κs. search needs)
+    (λ c. refl)
+    (λ c. refl)
+    (λ c κs. (le-refl numbersRoom, le-refl payoffsRoom))
+    (λ c. c .match .keys1)
+    (λ c. c .match .keys2)
+    (λ c κs. tt)
     refused
-    (λ c κs. search needs)
-    (λ c. search needs)
-    (λ c. search needs)
-    (λ c κs. search needs)
+    (λ c κs. tt)
+    (λ c. c .match2 .keys1)
+    (λ c. c .match2 .keys2)
+    (λ c κs. tt)
     missing
-    (λ c. search needs)
-    (λ c κs. search needs)
+    (λ c. sym (c .before .before .before .before .before .before .before .before .before .load .kept .1 .0))
+    (λ c κs. tt)
     own-sequence-requires
     found)

@@ -1,6 +1,5 @@
 -- The look-ups: 1 to 13, then 17, are decided.
 use Prim.Native.Nat.{ℕ}
-use mathlib.Core.List.{_++_}
 use Rattle.model.specs.Game.{Game, gameOf}
 use Rattle.model.specs.Rows.{of}
 use Rattle.model.specs.Checks.{gameRows}

@@ -1,5 +1,5 @@
 -- The verdict on a plan pair. Its clauses of demand 1 and of demand 3, for what the call gives and leaves in the buffer.
-use Prim.Native.Nat.{ℕ, _≤_, _<_}
+use Prim.Native.Nat.{ℕ, _<_}
 use mathlib.Core.Path.{_≡_, refl, sym, ap, _∙_, subst}
 use mathlib.Core.Logic.{_↔_}
 use mathlib.Core.List.{List, [], _∷_, _++_, map}
@@ -17,7 +17,7 @@ use Rattle.model.specs.Verdict.{shownMoves}
 use Rattle.model.specs.Rules.{GoodFiles}
 use Rattle.model.specs.Call.{Outcome, afterCall}
 use Rattle.model.specs.Exported.{exported}
-use Rattle.model.specs.calls.Verdict.{Stated, accepted, deviates, verdictOf, stated, call, verdictCall, Numbers, numbersOf, verdictNumbers}
+use Rattle.model.specs.calls.Verdict.{Stated, accepted, verdictOf, stated, call, verdictCall, Numbers, numbersOf, verdictNumbers}
 use Rattle.model.specs.Demand1.{Clause}
 use Rattle.model.specs.Demand3.{Deviates, strategyIn, IsAccepted, statedBase, StrategiesExist, Shows, Means, Judged, Demand3Met, statedBy, Demand3MetIn}
 use Rattle.model.proofs.Checks.{game-file-iff, plan-file-iff, pair-decided}

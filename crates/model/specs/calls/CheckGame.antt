@@ -11,9 +11,13 @@ pub record Counts : Type 0 where
   pub sets : ℕ
   pub rootWeight : ℕ
 
+-- these three: `desk_check_game` has a lent number for each
+abbrev pub counts : (nodes sets rootWeight : ℕ) → Counts
+counts nodes sets rootWeight = record { nodes = nodes; sets = sets; rootWeight = rootWeight }
+
 -- N, H and D0 of a game file
 abbrev pub countsOf : (game : List ℕ) → Counts
-countsOf game = record { nodes = gameOf game .nodes; sets = gameOf game .sets; rootWeight = gameOf game .rootWeight }
+countsOf game = counts (gameOf game .nodes) (gameOf game .sets) (gameOf game .rootWeight)
 
 -- Of a game file: 1 to 13. No buffer is lent.
 unfoldable pub call : Call (List ℕ) [] Counts

@@ -12,8 +12,12 @@ pub record Denominators : Type 0 where
   pub d1 : ℕ
   pub d2 : ℕ
 
+-- these two
+abbrev pub denominators : (d1 d2 : ℕ) → Denominators
+denominators d1 d2 = record { d1 = d1; d2 = d2 }
+
 abbrev pub denominatorsOf : Files → Denominators
-denominatorsOf f = let q = planPairOf (gameOf (f .game)) (f .plan) in record { d1 = q one .denominator; d2 = q two .denominator }
+denominatorsOf f = let q = planPairOf (gameOf (f .game)) (f .plan) in denominators (q one .denominator) (q two .denominator)
 
 -- Of a game file and a plan file: 1 to 16. No buffer is lent.
 unfoldable pub call : Call Files [] Denominators

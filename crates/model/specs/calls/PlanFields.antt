@@ -6,7 +6,7 @@ use Rattle.model.specs.Plan.{planMoves, planPairOf, planWeights}
 use Rattle.model.specs.PlanChecks.{Files, files}
 use Rattle.model.specs.Checks.{pairRows}
 use Rattle.model.specs.Call.{Call, Outcome, run}
-use Rattle.model.specs.calls.CheckPlan.{Denominators}
+use Rattle.model.specs.calls.CheckPlan.{Denominators, denominators}
 
 -- It gives D1, D2, and how many weights stand in the buffer.
 pub record PlanCounts : Type 0 where
@@ -30,4 +30,4 @@ planFields game plan weights = run call (files game plan) (weights, tt)
 
 -- `desk_plan_fields` has a lent number for D1 and one for D2
 abbrev pub denominatorsIn : PlanCounts → Denominators
-denominatorsIn c = record { d1 = c .d1; d2 = c .d2 }
+denominatorsIn c = denominators (c .d1) (c .d2)

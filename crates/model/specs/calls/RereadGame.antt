@@ -1,7 +1,5 @@
 -- Writes the fields of a game and reads them back: `reread_game`.
-use Prim.Native.Nat.{ℕ}
-use mathlib.Core.List.{List, _++_}
-use lib.ListN.{length}
+use mathlib.Core.List.{_++_}
 use Rattle.model.specs.Writing.{GameFields, gameBytes, setCount, nodeCount}
 use Rattle.model.specs.Rows.{Rows, of}
 use Rattle.model.specs.Checks.{gameRows}

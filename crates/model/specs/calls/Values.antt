@@ -20,6 +20,10 @@ pub record PairValues : Type 0 where
   pub d1 : ℕ
   pub d2 : ℕ
 
+-- these seven: `desk_values` has a lent number for each
+abbrev pub pairValues : (value1 value2 best1 best2 : ℤ) → (d0 d1 d2 : ℕ) → PairValues
+pairValues value1 value2 best1 best2 d0 d1 d2 = record { value1 = value1; value2 = value2; best1 = best1; best2 = best2; d0 = d0; d1 = d1; d2 = d2 }
+
 abbrev pub valuesOf : Files → PairValues
 valuesOf f =
     let g = gameOf (f .game) in

@@ -8,7 +8,6 @@ use Rattle.model.specs.Game.{gameOf, one, two}
 use Rattle.model.specs.PlanChecks.{Files, planHasLength}
 use Rattle.model.specs.Checks.{planRows}
 use Rattle.checks.proofs.Chains.{Left, begin, passes, stops-at, ends, fine-test}
-use Rattle.game.proofs.Refusals.{refuses}
 use Rattle.loaded.specs.Loaded.{NumbersLoaded}
 use Rattle.plan.specs.declared.PlanAnswer.the-variants.{Fits, Refused}
 use Rattle.plan.specs.Loaded.{SequencesCounted}
@@ -53,7 +52,7 @@ refused-14 c game l =
     let s = c .before .before .before .before .before .before .before .before in
     let (r, k) = stops-at (begin planRows (files s game)) (c .before .before .before .has-length .ensures _ (l .counts-are)) (c .before .enum-told2 .given .1) (c .number .ensures) in
     let n = r .is in
-    record { answer = refuses (λ k. planAnswer k (s .args .plan .now)) Refused (λ k. refl) n (r .some); first = after-early _ _ one 14 _ (n ∙ k) refl; second = after-early _ _ two 14 _ (n ∙ k) refl }
+    record { answer = ap Refused k ∙ ap (λ (j : ℕ). planAnswer j (s .args .plan .now)) (sym (n ∙ k)); first = after-early _ _ one 14 _ (n ∙ k) refl; second = after-early _ _ two 14 _ (n ∙ k) refl }
 
 refused-15 : tie.Need-returns-2
 unfolding planRows
@@ -61,7 +60,7 @@ refused-15 c game l =
     let s = c .before .before .before .before .before .before .before .before .before .before .before in
     let (r, k) = stops-at (left-15 (c .before .before .before .before) game l) (c .before .before .before .well-formed .ensures _ (l .counts-are)) (c .before .enum-told4 .given .1) (c .number2 .ensures) in
     let n = r .is in
-    record { answer = refuses (λ k. planAnswer k (s .args .plan .now)) Refused (λ k. refl) n (r .some); first = after-early _ _ one 15 _ (n ∙ k) refl; second = after-early _ _ two 15 _ (n ∙ k) refl }
+    record { answer = ap Refused k ∙ ap (λ (j : ℕ). planAnswer j (s .args .plan .now)) (sym (n ∙ k)); first = after-early _ _ one 15 _ (n ∙ k) refl; second = after-early _ _ two 15 _ (n ∙ k) refl }
 
 refused-16 : tie.Need-returns-3
 unfolding planRows
@@ -70,7 +69,7 @@ refused-16 c game l =
     let e = c .before .before .before .before .before .before .before .plan-fits .ensures _ l in
     let (r, k) = stops-at (left-16 (c .before .before .before .before .before .before .before .before .before .before) game l) (e .answer) (c .before .enum-told6 .given .1) (c .number3 .ensures) in
     let n = r .is in
-    record { answer = refuses (λ k. planAnswer k (s .args .plan .now)) Refused (λ k. refl) n (r .some); first = after-late _ _ one 16 _ (n ∙ k) refl (e .first); second = after-late _ _ two 16 _ (n ∙ k) refl (e .second) }
+    record { answer = ap Refused k ∙ ap (λ (j : ℕ). planAnswer j (s .args .plan .now)) (sym (n ∙ k)); first = after-late _ _ one 16 _ (n ∙ k) refl (e .first); second = after-late _ _ two 16 _ (n ∙ k) refl (e .second) }
 
 accepted : tie.Need-returns-4
 unfolding planRows

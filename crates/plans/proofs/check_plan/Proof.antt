@@ -1,6 +1,9 @@
 -- A pair that fits gives D1 and D2; a refusal gives its number.
-use borrow.Author.Needs.{needs}
-use Rattle.plan.proofs.Pairs.{pair-opened, pair-refused-with}
+use mathlib.Core.Path.{refl}
+use native.Mathlib.Nat.{le-refl}
+use Rattle.model.specs.Limits.{countLimit}
+use Rattle.loaded.specs.Sections.{numbersRoom, payoffsRoom}
+use Rattle.pair.proofs.Pairs.{pair-opened, pair-refused-with}
 use Rattle.plans.proofs.Answers.{plan-refused, plan-fits}
 use Rattle.plans.proofs.check_plan.Statement.{statement}
 use Rattle.plans.proofs.check_plan.Tie as tie
@@ -17,13 +20,13 @@ pub check-plan-spec : {M : Type 1} → statement M
 check-plan-spec =
     tie.close
     (tie.spec
-    (λ c. search needs)
-    (λ c. search needs)
-    (λ c. search needs)
-    (λ c. search needs)
-    (λ c κs. search needs)
-    (λ c. search needs)
-    (λ c. search needs)
-    (λ c κs. search needs)
+    (λ c. refl)
+    (λ c. refl)
+    (λ c. refl)
+    (λ c. refl)
+    (λ c κs. (le-refl numbersRoom, le-refl payoffsRoom, le-refl countLimit, le-refl countLimit))
+    (λ c. c .match .keys1)
+    (λ c. c .match .keys2)
+    (λ c κs. tt)
     refused
     fits)

@@ -1,10 +1,13 @@
 -- The pair's refusal comes first, then 18; with room all weights are put.
+use mathlib.Core.Path.{refl, sym}
 use native.Mathlib.Omega.{arith}
-use borrow.Author.Needs.{needs}
+use native.Mathlib.Nat.{le-refl}
 use lib.Dec.{leb, leb→le}
 use lib.ListN.{length}
 use Rattle.model.specs.Game.{one, two}
-use Rattle.plan.proofs.Pairs.{PairOpened, pair-opened, pair-refused-with, pair-holds, pair-counted, pair-few}
+use Rattle.model.specs.Limits.{countLimit}
+use Rattle.loaded.specs.Sections.{numbersRoom, payoffsRoom}
+use Rattle.pair.proofs.Pairs.{PairOpened, pair-opened, pair-refused-with, pair-holds, pair-counted, pair-few}
 use Rattle.checks.proofs.Chains.{fine-test}
 use Rattle.plans.proofs.Answers.{weights-refused, weights-counted, weights-short, weights-given}
 use Rattle.plans.proofs.plan_fields.Statement.{statement}
@@ -45,23 +48,23 @@ pub plan-fields-spec : {M : Type 1} → statement M
 plan-fields-spec =
     tie.close
     (tie.spec
-    (λ c. search needs)
-    (λ c. search needs)
-    (λ c. search needs)
-    (λ c. search needs)
-    (λ c κs. search needs)
-    (λ c. search needs)
-    (λ c. search needs)
-    (λ c κs. search needs)
+    (λ c. refl)
+    (λ c. refl)
+    (λ c. refl)
+    (λ c. refl)
+    (λ c κs. (le-refl numbersRoom, le-refl payoffsRoom, le-refl countLimit, le-refl countLimit))
+    (λ c. c .match .keys1)
+    (λ c. c .match .keys2)
+    (λ c κs. tt)
     refused
     (λ c κs. pair-few _ _ (opened (c .before)))
-    (λ c κs. search needs)
-    (λ c. search needs)
-    (λ c. search needs)
-    (λ c κs. search needs)
+    (λ c κs. tt)
+    (λ c. c .match2 .keys1)
+    (λ c. c .match2 .keys2)
+    (λ c κs. tt)
     short
-    (λ c. search needs)
-    (λ c. search needs)
+    (λ c. sym (c .before .before .before .before .before .before .before .before .before .before .before .before .before .read .kept .1 .1 .1 .1 .0))
+    (λ c. sym (c .before .before .before .before .before .before .before .before .before .before .before .before .before .before .read .kept .1 .1 .1 .1 .1 .0))
     put-requires
-    (λ c. search needs)
+    (λ c. c .before .before .before .put-weights .kept .1 .1 .1 .0)
     given)

@@ -1,7 +1,6 @@
 -- A walk of the MIR by hand: no branch and no loop. Four arrays are lent to `laid_out`, come back, and are lent to `fill_rows`; the rows are given up to `fill_rows` for good.
 use mathlib.Core.Path.{_≡_, refl}
 use Prim.Native.Nat.{ℕ, _≤_, _<_, _^_}
-use native.Mathlib.Omega.{arith}
 use mathlib.Core.List.{[], _∷_, List, map}
 use lib.Dec.{T as Holds, lit<}
 use lib.IntN.{ℤ, pos}
@@ -58,7 +57,7 @@ use Rattle.rows.proofs.TableAnswer.Laws as E′
 use Rattle.rows.specs.declared.Row.{Row}
 use Rattle.rows.specs.Answers.{modelRow}
 use Rattle.rows.specs.Rows.{Roomy, TableMade, rowsGiven, rowMade}
-use Rattle.rows.proofs.Answers.{rows-ready}
+use Rattle.rows.proofs.Answers.{all-roomy, rows-ready}
 use Rattle.rows.proofs.Rows.{rows-call}
 use Rattle.rows.proofs.Locals.{big-lit, ref, made-typed, made-lies, lends, shares-back, room-back}
 use Rattle.rows.proofs.Row as T
@@ -113,9 +112,6 @@ leavesOf y = leavesIn (y .0) (y .1 .0) (y .1 .1 .0) (y .1 .1 .1 .0)
 
 abbrev AllRoomy : Lists → Type 0
 AllRoomy y = Roomy (y .0) (y .1 .0) (y .1 .1 .0) (y .1 .1 .1 .0)
-
-long : (y₁ : List ℕ) (y₂ : List ℤ) (y₃ y₄ : List ℕ) → length y₁ ≡ numbersRoom → length y₂ ≡ payoffsRoom → length y₃ ≡ (2 ^ 12) → length y₄ ≡ (2 ^ 12) → AllRoomy (y₁, (y₂, (y₃, (y₄, tt))))
-long y₁ y₂ y₃ y₄ e₁ e₂ e₃ e₄ = record { numbers-long = omega arith; payoffs-long = omega arith; sorted-long = omega arith; bounds-long = omega arith }
 
 module _ {M : Type 1} (𝓤 : URA M) (H : Heap 𝓤) (A : Atoms 𝓤) (at-mem : Memory → SProp 𝓤) (run : Routine → Fun 𝓤) where
   -- the contracts that the proof cites
@@ -252,7 +248,7 @@ module _ {M : Type 1} (𝓤 : URA M) (H : Heap 𝓤) (A : Atoms 𝓤) (W : Given
         move ! (7 ∷ []) $ use1 W (later (some (λ (δ : GName). ‵ (Column ν u16 (2 ^ 12) l₆ δ y₄) ⊛ ‵ (flent (ν ∷ []) (Held u16 (2 ^ 12) l₆ 0 δ))))) (lends 𝓤 H A W u16 (2 ^ 12) l₆ (named 1) (ν ∷ []) y₄ e₄ room-order) $ await ! tt $ pick ! (λ γ₄. split ! $
         -- `laid_out`
         move ! (61 ∷ []) $ split ! $ move ! (63 ∷ []) $ fsplit ! $ use1 W (‵ Game ⊛ ‵ Game) (shr-slice-copy 𝓤 H A W (named 0) κ u8 .twice game (vg ∷ [])) $ split ! $ move ! (2 ∷ []) $ fsplit ! $
-        move ! (4 ∷ 14 ∷ 3 ∷ 12 ∷ 10 ∷ 8 ∷ 6 ∷ []) $ group ! 7 $ use1 W (raw (LaidOut 𝓤 H A at-mem run .pre (to-laid l₃ l₄ l₅ l₆ ν (y₁, (y₂, (y₃, (y₄, tt)))) (γ₁, (γ₂, (γ₃, (γ₄, tt))))))) (goes-laid l₃ l₄ l₅ l₆ ν (y₁, (y₂, (y₃, (y₄, tt)))) (γ₁, (γ₂, (γ₃, (γ₄, tt)))) (long y₁ y₂ y₃ y₄ e₁ e₂ e₃ e₄) room) $
+        move ! (4 ∷ 14 ∷ 3 ∷ 12 ∷ 10 ∷ 8 ∷ 6 ∷ []) $ group ! 7 $ use1 W (raw (LaidOut 𝓤 H A at-mem run .pre (to-laid l₃ l₄ l₅ l₆ ν (y₁, (y₂, (y₃, (y₄, tt)))) (γ₁, (γ₂, (γ₃, (γ₄, tt))))))) (goes-laid l₃ l₄ l₅ l₆ ν (y₁, (y₂, (y₃, (y₄, tt)))) (γ₁, (γ₂, (γ₃, (γ₄, tt)))) (all-roomy e₁ e₂ e₃ e₄) room) $
         calls-at ! fm (LaidOut 𝓤 H A at-mem run) known-laid (to-laid l₃ l₄ l₅ l₆ ν (y₁, (y₂, (y₃, (y₄, tt)))) (γ₁, (γ₂, (γ₃, (γ₄, tt))))) (and-then ! (load ! (from ! (stop !)) (look ! 57 refl)) (and-then ! (load ! (from ! (stop !)) (look ! 47 refl)) (and-then ! (load ! (from ! (stop !)) (look ! 43 refl)) (and-then ! (load ! (from ! (stop !)) (look ! 39 refl)) (and-then ! (load ! (from ! (stop !)) (look ! 35 refl)) (and-then ! (load ! (from ! (stop !)) (look ! 31 refl)) (no-more !))))))) (λ w.
         use1 W (later (some (λ (r : TableAnswer). ((‵ (flft κ q) ⊛ ‵ (flft (ν ∷ []) fullShare) ⊛ ‵ ftrue) ⊛ ‵ (E.the-row .own r (w ∷ []))) ⊛ raw (ensured 𝓤 H A laid-out.ended (laid-out.clauses 𝓤 H A at-mem run) (κ, (ν ∷ [], tt)) (game, (length ys, passed l₃ l₄ l₅ l₆ (y₁, (y₂, (y₃, (y₄, tt)))) (γ₁, (γ₂, (γ₃, (γ₄, tt)))))) tt r)))) (id⊢ 𝓤 _) $ await ! tt $ pick ! (λ r.
         split ! $ move ! (1 ∷ []) $ use1 W (some (λ (zs : Laid). ‵ (lasts laid-out.ended (κ, (ν ∷ [], tt)) (game, (length ys, passed l₃ l₄ l₅ l₆ (y₁, (y₂, (y₃, (y₄, tt)))) (γ₁, (γ₂, (γ₃, (γ₄, tt)))))) zs) ⊛ raw (fact 𝓤 (IsLaid r zs)))) (id⊢ 𝓤 _) $ pick ! (λ zs. split ! $ move ! (1 ∷ []) $ heard ! (IsLaid r zs) (λ made.

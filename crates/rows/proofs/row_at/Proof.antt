@@ -2,7 +2,6 @@
 use mathlib.Core.Path.{_∙_}
 use mir.Syntax.{w64}
 use mir.Facts.{toZ-ofZ}
-use Rattle.payoff.proofs.GameLeaves.{sequence1-ready, sequence2-ready, sum1-ready, sum2-ready}
 use Rattle.rows.proofs.row_at.Statement.{statement}
 use Rattle.rows.proofs.row_at.Tie as tie
 
@@ -18,8 +17,8 @@ pub row-at-spec : {M : Type 1} → statement M
 row-at-spec =
     tie.close
     (tie.spec
-    (λ c κs. sequence1-ready (c .before .before .before .pre))
-    (λ c κs. sequence2-ready (c .before .before .before .before .pre))
-    (λ c κs. sum1-ready (c .before .before .before .before .before .pre))
-    (λ c κs. sum2-ready (c .before .before .before .before .before .before .pre))
+    (λ c κs. c .before .before .before .pre .sequence1-ready)
+    (λ c κs. c .before .before .before .before .pre .sequence2-ready)
+    (λ c κs. c .before .before .before .before .before .pre .sum1-ready)
+    (λ c κs. c .before .before .before .before .before .before .pre .sum2-ready)
     made)

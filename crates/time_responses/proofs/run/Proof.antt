@@ -8,12 +8,12 @@ use lib.IntN.{ℤ}
 use lib.ListN.{replicate}
 use Rattle.model.specs.Limits.{countLimit}
 use Rattle.model.specs.Game.{gameOf, two}
-use Rattle.plan.specs.declared.PairHeader.{PairHeader}
-use Rattle.plan.specs.declared.PairAnswer.{PairAnswer}
-use Rattle.plan.specs.declared.PairAnswer.the-variants.{Fits}
-use Rattle.plan.specs.Refusals.{PairRead}
+use Rattle.pair.specs.declared.PairHeader.{PairHeader}
+use Rattle.pair.specs.declared.PairAnswer.{PairAnswer}
+use Rattle.pair.specs.declared.PairAnswer.the-variants.{Fits}
+use Rattle.pair.specs.Refusals.{PairRead}
 use Rattle.plan.proofs.ByNumber.{small-number}
-use Rattle.plan.proofs.Pairs.{pair-opened, pair-holds}
+use Rattle.pair.proofs.Pairs.{pair-opened, pair-holds}
 use Rattle.responses.specs.Responses.{ResponseAsked}
 use Rattle.time_responses.proofs.run.Statement.{statement}
 use Rattle.time_responses.proofs.run.Tie as tie

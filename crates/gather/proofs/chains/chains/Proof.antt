@@ -7,6 +7,7 @@ use Rattle.algebra.specs.Sections.{Apart}
 use Rattle.algebra.proofs.Sections.{apart-none, apart-twice}
 use Rattle.model.specs.Game.{Game, one, two}
 use Rattle.model.specs.Sequences.{sequenceCount}
+use Rattle.loaded.specs.Sections.{headSection, numbersRoom}
 use Rattle.gather.specs.Numbered.{Numbered}
 use Rattle.gather.specs.Gathered.{ChainsFrom}
 use Rattle.gather.proofs.Numbered.{numbered-apart}
@@ -15,7 +16,7 @@ use Rattle.gather.proofs.chains.chains.Statement.{statement}
 use Rattle.gather.proofs.chains.chains.Tie as tie
 
 abbrev Inv-loop : tie.InvT-loop
-Inv-loop numbers₀ sets sequences1 sequences2 left₀ numbers left = (left ≤ sets) × Apart 65536 77824 numbers₀ numbers × ((g : Game) → sets ≡ g .sets → sequences1 ≡ sequenceCount g one → sequences2 ≡ sequenceCount g two → Numbered g numbers₀ → ChainsFrom g left numbers)
+Inv-loop numbers₀ sets sequences1 sequences2 left₀ numbers left = (left ≤ sets) × Apart (headSection one) numbersRoom numbers₀ numbers × ((g : Game) → sets ≡ g .sets → sequences1 ≡ sequenceCount g one → sequences2 ≡ sequenceCount g two → Numbered g numbers₀ → ChainsFrom g left numbers)
 
 abbrev μ-loop : tie.MeasureT-loop
 μ-loop numbers₀ sets sequences1 sequences2 left₀ numbers left = left
@@ -50,14 +51,14 @@ loop-again c =
     let made = c .before .before .link .ensures in
     let left = c .before .before .before .before .before .loop .left in
     let e : left ≡ left - 1 + 1 = omega arith in
-    (omega arith, apart-twice 65536 77824 (inv .1) (made .0) (omega arith) (omega arith) (omega arith) (omega arith), λ g s a b N. made .1 g (omega arith) (numbered-apart N (inv .1) (omega arith)) (subst (λ (k : ℕ). ChainsFrom g k (c .before .before .before .before .before .loop .numbers)) e (inv .2 g s a b N)))
+    (omega arith, apart-twice (headSection one) numbersRoom (inv .1) (made .0) (omega arith) (omega arith) (omega arith) (omega arith), λ g s a b N. made .1 g (omega arith) (numbered-apart N (inv .1) (omega arith)) (subst (λ (k : ℕ). ChainsFrom g k (c .before .before .before .before .before .loop .numbers)) e (inv .2 g s a b N)))
 
 returns : tie.Need-returns Inv-loop μ-loop
 returns c =
     let some = c .before .before .before .before .before .before .before .before .before .before .before .pre in
     let inv = c .before .loop .inv in
     let emptied = heads-filled (some .numbered) (some .has .1) (some .has .2) (c .before .before .before .before .before .before .before .before .fill .ensures .1) (c .before .before .before .before .fill2 .ensures .1) in
-    (apart-twice 65536 77824 emptied (inv .1) (omega arith) (omega arith) (omega arith) (omega arith), λ g s a b N. let M = numbered-apart N emptied (omega arith) in chains-all g _ (inv .2 g s a b M) (omega arith) M (inv .1 .long))
+    (apart-twice (headSection one) numbersRoom emptied (inv .1) (omega arith) (omega arith) (omega arith) (omega arith), λ g s a b N. let M = numbered-apart N emptied (omega arith) in chains-all g _ (inv .2 g s a b M) (omega arith) M (inv .1 .long))
 
 pub chains-spec : {M : Type 1} → statement M
 chains-spec =

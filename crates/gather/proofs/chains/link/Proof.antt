@@ -1,33 +1,34 @@
 -- What is read is the set's player, the sequence that leads to it, and the head of its chain.
 use native.Mathlib.Omega.{arith}
 use borrow.Author.Needs.{needs}
-use Rattle.gather.proofs.ChainLaws.{bit-small, heads-are, lead-is, head-in, link-apart, linked}
+use Rattle.loaded.proofs.Owners.{bit-small}
+use Rattle.gather.proofs.ChainLaws.{heads-are, lead-is, head-in, link-apart, linked}
 use Rattle.gather.proofs.chains.link.Statement.{statement}
 use Rattle.gather.proofs.chains.link.Tie as tie
 
-heads-of-requires : tie.Need-heads-of-requires
-heads-of-requires c κs = let some = c .before .before .before .pre in bit-small (some .numbered) (some .has) (c .number .ensures .0)
+head-section-requires : tie.Need-head-section-requires
+head-section-requires c κs = let some = c .before .before .before .pre in bit-small (some .numbered .decoded) (some .has) (c .number .ensures .0)
 
 number-requires-3 : tie.Need-number-requires-3
 number-requires-3 c κs =
     let some = c .before .before .before .before .before .before .before .pre in
     let N = some .numbered in
     let v = some .has in
-    omega (arith, head-in N v (heads-are N v (c .before .before .before .before .number .ensures .0) (c .before .before .before .heads-of .ensures)) (lead-is N v (c .before .number2 .ensures .0)) .1, N .decoded .room)
+    omega (arith, head-in N v (heads-are N v (c .before .before .before .before .number .ensures .0) (c .before .before .before .head-section .ensures)) (lead-is N v (c .before .number2 .ensures .0)) .1, N .decoded .room)
 
 put-requires-2 : tie.Need-put-requires-2
 put-requires-2 c κs =
     let some = c .before .before .before .before .before .before .before .before .before .before .before .before .before .pre in
     let N = some .numbered in
     let v = some .has in
-    let i = head-in N v (heads-are N v (c .before .before .before .before .before .before .before .before .before .before .number .ensures .0) (c .before .before .before .before .before .before .before .before .before .heads-of .ensures)) (lead-is N v (c .before .before .before .before .before .before .before .number2 .ensures .0)) in
+    let i = head-in N v (heads-are N v (c .before .before .before .before .before .before .before .before .before .before .number .ensures .0) (c .before .before .before .before .before .before .before .before .before .head-section .ensures)) (lead-is N v (c .before .before .before .before .before .before .before .number2 .ensures .0)) in
     (omega (arith, i .1, N .decoded .room, c .before .before .before .put .kept .0), omega (arith, v, N .decoded .few-sets))
 
 returns : tie.Need-returns
 returns c =
     let some = c .before .before .before .before .before .before .before .before .before .before .before .before .before .before .before .before .pre in
     let bit = c .before .before .before .before .before .before .before .before .before .before .before .before .before .number .ensures .0 in
-    let heads = c .before .before .before .before .before .before .before .before .before .before .before .before .heads-of .ensures in
+    let heads = c .before .before .before .before .before .before .before .before .before .before .before .before .head-section .ensures in
     let lead = c .before .before .before .before .before .before .before .before .before .before .number2 .ensures .0 in
     let first = c .before .before .before .before .before .before .put .ensures in
     let second = c .before .before .put2 .ensures in
@@ -40,7 +41,7 @@ link-spec =
     tie.close
     (tie.spec
     (λ c κs. search needs)
-    heads-of-requires
+    head-section-requires
     (λ c κs. search needs)
     number-requires-3
     (λ c κs. search needs)

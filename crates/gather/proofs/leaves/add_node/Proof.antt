@@ -2,6 +2,7 @@
 use native.Mathlib.Omega.{arith}
 use borrow.Author.Needs.{needs}
 use Rattle.algebra.proofs.Sections.{apart-none}
+use Rattle.loaded.proofs.NodeReads.{kind-read}
 use Rattle.gather.proofs.LeafLaws.{leaf-none}
 use Rattle.gather.proofs.leaves.add_node.Statement.{statement}
 use Rattle.gather.proofs.leaves.add_node.Tie as tie
@@ -9,10 +10,10 @@ use Rattle.gather.proofs.leaves.add_node.Tie as tie
 returns : tie.Need-returns
 returns c =
     let put = c .before .before .put-leaf .ensures in
-    (omega arith, put .0, λ g v N L. put .1 g v (omega (arith, c .before .before .before .before .if1 .taken, c .before .before .before .before .before .number .ensures .0, N .decoded .nodes-decoded .kinds .at 0 _ v)) N L)
+    record { once = omega arith; apart = put .0; held = λ g v N L. put .1 g v (omega (arith, c .before .before .before .before .if1 .taken, c .before .before .before .before .before .number .ensures .0, kind-read (N .decoded) v)) N L }
 
 returns-2 : tie.Need-returns-2
-returns-2 c = (omega arith, apart-none, λ g v N L. leaf-none g _ _ (λ e. omega (arith, c .if1 .left, c .before .number .ensures .0, N .decoded .nodes-decoded .kinds .at 0 _ v)) L)
+returns-2 c = record { once = omega arith; apart = apart-none; held = λ g v N L. leaf-none g _ _ (λ e. omega (arith, c .if1 .left, c .before .number .ensures .0, kind-read (N .decoded) v)) L }
 
 pub add-node-spec : {M : Type 1} → statement M
 add-node-spec =

@@ -1,7 +1,9 @@
 -- The pair's refusal; or the report on what was evaluated and judged.
-use mathlib.Core.Path.{_∙_}
-use borrow.Author.Needs.{needs}
-use Rattle.verdict.proofs.EvaluatedPairs.{EvaluationOpened, evaluation-opened, evaluation-refused-with}
+use mathlib.Core.Path.{refl, sym, _∙_}
+use native.Mathlib.Nat.{le-refl}
+use Rattle.model.specs.Limits.{countLimit}
+use Rattle.loaded.specs.Sections.{numbersRoom, payoffsRoom}
+use Rattle.evaluation.proofs.EvaluatedPairs.{EvaluationOpened, evaluation-opened, evaluation-refused-with}
 use Rattle.verdict.proofs.VerdictAnswered.{judge-asks}
 use Rattle.report.proofs.Calls.{report-refused, report-given, file-most, pair-ready, report-agrees}
 use Rattle.report.proofs.reports.report.Statement.{statement}
@@ -39,19 +41,19 @@ pub report-spec : {M : Type 1} → statement M
 report-spec =
     tie.close
     (tie.spec
-    (λ c. search needs)
-    (λ c. search needs)
-    (λ c. search needs)
-    (λ c. search needs)
-    (λ c κs. search needs)
-    (λ c. search needs)
-    (λ c. search needs)
-    (λ c κs. search needs)
+    (λ c. refl)
+    (λ c. refl)
+    (λ c. refl)
+    (λ c. refl)
+    (λ c κs. (le-refl numbersRoom, le-refl payoffsRoom, le-refl countLimit, le-refl countLimit))
+    (λ c. c .match .keys1)
+    (λ c. c .match .keys2)
+    (λ c κs. tt)
     refused
     judge-requires
-    (λ c. search needs)
-    (λ c. search needs)
-    (λ c. search needs)
+    (λ c. sym (c .before .before .before .before .before .before .before .before .before .evaluate .kept .1 .1 .0))
+    (λ c. sym (c .before .before .before .before .before .before .before .before .before .before .evaluate .kept .1 .1 .1 .1 .0))
+    (λ c. sym (c .before .before .before .before .before .before .before .before .before .before .before .evaluate .kept .1 .1 .1 .1 .1 .0))
     give-report-requires
-    (λ c. search needs)
+    (λ c. c .before .before .give-report .kept .1 .1 .1 .1 .1 .1 .0)
     returns)

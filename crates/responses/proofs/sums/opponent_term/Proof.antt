@@ -10,17 +10,17 @@ use Rattle.responses.proofs.sums.opponent_term.Statement.{statement}
 use Rattle.responses.proofs.sums.opponent_term.Tie as tie
 
 mul-weight : tie.Need-mul-weight
-mul-weight c = omega (arith, two-weights (c .before .number2 .ensures .1) (c .number3 .ensures .1))
+mul-weight c = omega (arith, two-weights (c .before .number2 .ensures .1) (c .item .ensures .1))
 
 weighed-requires : tie.Need-weighed-requires
-weighed-requires c κs = omega (arith, two-weights (c .before .before .number2 .ensures .1) (c .before .number3 .ensures .1))
+weighed-requires c κs = omega (arith, two-weights (c .before .before .number2 .ensures .1) (c .before .item .ensures .1))
 
 returns : tie.Need-returns
 returns c =
     let a = c .before .before .before .before .before .before .before .args in
     toZ-ofZ {w = w64} {z = c .weighed .result} (record { sfits = c .weighed .ok })
     ∙ weighed-is (c .weighed .ensures)
-    (term-weight (a .y .now) (c .before .before .before .number2 .ensures .0) (c .before .before .number3 .ensures .0) (c .before .before .before .before .number .ensures .0))
+    (term-weight (a .y .now) (c .before .before .before .number2 .ensures .0) (c .before .before .item .ensures .0) (c .before .before .before .before .number .ensures .0))
     (toZ-ofZ {w = w16} {z = c .before .payoff .result} (record { sfits = c .before .payoff .ok }) ∙ c .before .payoff .ensures)
 
 pub opponent-term-spec : {M : Type 1} → statement M

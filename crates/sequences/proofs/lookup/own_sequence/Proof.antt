@@ -2,7 +2,7 @@
 use native.Mathlib.Omega.{arith}
 use borrow.Author.Needs.{needs}
 use Rattle.model.specs.Game.{playerOf}
-use Rattle.sequences.proofs.Nodes.{bit-small}
+use Rattle.loaded.proofs.Owners.{bit-small}
 use Rattle.sequences.proofs.Leading.{first-read, leading-is, loaded-stored, loaded-first}
 use Rattle.sequences.proofs.lookup.own_sequence.Statement.{statement}
 use Rattle.sequences.proofs.lookup.own_sequence.Tie as tie

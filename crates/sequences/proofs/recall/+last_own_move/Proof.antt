@@ -6,14 +6,16 @@ use native.Mathlib.Omega.{arith}
 use borrow.Fn.Kinds.{In}
 use borrow.Fn.PlainCycle.{Measures, is, falls, and}
 use Rattle.model.specs.Game.{playerOf}
-use Rattle.sequences.proofs.Nodes.{no-decision, own-decision, other-decision, kind-read, decision-read, bit-read}
+use Rattle.loaded.proofs.NodeReads.{kind-read}
+use Rattle.loaded.proofs.Owners.{is-owner, not-owner}
+use Rattle.sequences.proofs.Nodes.{no-decision, own-decision, other-decision, decision-read}
 use Rattle.sequences.proofs.Own.{number-root, parent-below, parent-in, number-made, number-walked, number-stored}
 use Rattle.sequences.proofs.Stored.{own-range}
 use Rattle.sequences.proofs.recall.last_own_move.Reads as last-own-move
 use Rattle.sequences.proofs.recall.last_own_move.Kinds as last-own-move-kinds
 use Rattle.sequences.proofs.recall.+last_own_move.Lts-last_own_move as last-own-move-lts
 use Rattle.loaded.proofs.number.Reads as number-reads
-use Rattle.sequences.proofs.recall.own_section.Reads as own-section-reads
+use Rattle.loaded.proofs.own_section.Reads as own-section-reads
 use Rattle.sequences.proofs.recall.+last_own_move.{statement}
 use Rattle.sequences.proofs.recall.+last_own_move.Tie.{close}
 
@@ -69,7 +71,7 @@ pub +last-own-move-spec : {M : Type 1} → statement M
     let z = c .before .before .before .before .before .before .before .before .if1 .left in
     let e = c .before .before .before .before .before .before .before .number .ensures .0 in
     let D = decision-read (S .decoded) (parent-in S z l e) (S .rooted) (c .before .before .before .before .before .before .number2 .ensures .0) (c .before .before .before .before .before .if2 .taken) (c .before .before .before .before .number3 .ensures .0) in
-    let moves = own-decision D _ (sym (bit-read (S .decoded) (D .below) (c .before .before .before .number4 .ensures .0)) ∙ c .before .before .if3 .taken) in
+    let moves = own-decision D _ (is-owner g (S .decoded .sets-decoded .players) _ _ (c .before .before .before .before .before .before .before .before .before .before .pre .1 .1) (D .below) (sym (c .before .before .before .number4 .ensures .0) ∙ c .before .before .if3 .taken)) in
     number-made S z l e D moves (c .before .number5 .ensures .0) (c .number6 .ensures .0))
     (λ c κs. c .before .before .before .before .before .before .pre .1 .1)
     (λ c κs.
@@ -85,8 +87,8 @@ pub +last-own-move-spec : {M : Type 1} → statement M
     let v = parent-in S z l e in
     let waits =
     ⊎-elim
-    (λ w. let D = decision-read (S .decoded) v (S .rooted) k (w .0 .taken) (w .1 .ensures .0) in other-decision D _ (s .pre .1 .1) (λ i. w .3 .left (bit-read (S .decoded) (D .below) (w .2 .ensures .0) ∙ i)))
-    (λ w. no-decision g _ _ (λ i. w .left (kind-read (S .decoded) v k ∙ i)))
+    (λ w. let D = decision-read (S .decoded) v (S .rooted) k (w .0 .taken) (w .1 .ensures .0) in other-decision D _ (not-owner g (S .decoded .sets-decoded .players) _ _ (s .pre .1 .1) (D .below) (λ i. w .3 .left (w .2 .ensures .0 ∙ i))))
+    (λ w. no-decision g _ _ (λ i. w .left (k ∙ kind-read (S .decoded) v ∙ i)))
     (c .before .before .before .if2 .came) in
     number-stored S z l e waits (c .before .before .if4 .taken) (c .before .own-section .ensures) (c .number7 .ensures .0))
     (λ c κs.
@@ -103,7 +105,7 @@ pub +last-own-move-spec : {M : Type 1} → statement M
     let v = parent-in S z l e in
     let waits =
     ⊎-elim
-    (λ w. let D = decision-read (S .decoded) v (S .rooted) k (w .0 .taken) (w .1 .ensures .0) in other-decision D _ (s .pre .1 .1) (λ i. w .3 .left (bit-read (S .decoded) (D .below) (w .2 .ensures .0) ∙ i)))
-    (λ w. no-decision g _ _ (λ i. w .left (kind-read (S .decoded) v k ∙ i)))
+    (λ w. let D = decision-read (S .decoded) v (S .rooted) k (w .0 .taken) (w .1 .ensures .0) in other-decision D _ (not-owner g (S .decoded .sets-decoded .players) _ _ (s .pre .1 .1) (D .below) (λ i. w .3 .left (w .2 .ensures .0 ∙ i))))
+    (λ w. no-decision g _ _ (λ i. w .left (k ∙ kind-read (S .decoded) v ∙ i)))
     (c .before .before .if2 .came) in
     number-walked S z l e waits (c .last-own-move .ensures g v S))

@@ -2,7 +2,7 @@
 use native.Mathlib.Omega.{arith}
 use borrow.Author.Needs.{needs}
 use Rattle.model.specs.Game.{playerOf}
-use Rattle.sequences.proofs.Nodes.{bit-small}
+use Rattle.loaded.proofs.Owners.{bit-small}
 use Rattle.sequences.proofs.Leading.{first-in-nodes, lead-read}
 use Rattle.sequences.proofs.Stored.{own-range}
 use Rattle.sequences.proofs.recall.lead_of.Statement.{statement}

@@ -5,7 +5,7 @@ use native.Mathlib.Omega.{arith}
 use Rattle.algebra.specs.Sections.{Apart}
 use Rattle.algebra.proofs.Sections.{apart-none, apart-set}
 use Rattle.model.specs.Game.{Game, playerOf}
-use Rattle.loaded.specs.Sections.{ownSection}
+use Rattle.loaded.specs.Sections.{sectionRoom, ownSection}
 use Rattle.sequences.specs.Recall.{OwnStored}
 use Rattle.sequences.proofs.Few.{own-number-small}
 use Rattle.sequences.proofs.Stored.{own-range, stored-more}
@@ -14,7 +14,7 @@ use Rattle.sequences.proofs.recall.own_numbers.Tie as tie
 
 abbrev Inv-loop : tie.InvT-loop
 Inv-loop numbers₀ nodes player section n₀ numbers n =
-    (n ≤ nodes) × Apart (ownSection (playerOf player)) (ownSection (playerOf player) + 4096) numbers₀ numbers × ((g : Game) → nodes ≡ g .nodes → OwnStored g (playerOf player) 0 numbers₀ → OwnStored g (playerOf player) n numbers)
+    (n ≤ nodes) × Apart (ownSection (playerOf player)) (ownSection (playerOf player) + sectionRoom) numbers₀ numbers × ((g : Game) → nodes ≡ g .nodes → OwnStored g (playerOf player) 0 numbers₀ → OwnStored g (playerOf player) n numbers)
 
 abbrev μ-loop : tie.MeasureT-loop
 μ-loop numbers₀ nodes player section n₀ numbers n = nodes - n

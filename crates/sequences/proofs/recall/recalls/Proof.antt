@@ -4,8 +4,10 @@ use mathlib.Core.Path.{_∙_}
 use native.Mathlib.Omega.{arith}
 use borrow.Author.Needs.{needs}
 use Rattle.model.specs.Game.{Game, playerOf}
+use Rattle.loaded.proofs.NodeReads.{kind-read}
+use Rattle.loaded.proofs.Owners.{bit-small}
 use Rattle.sequences.specs.Recall.{OwnFilled}
-use Rattle.sequences.proofs.Nodes.{Decision, kind-read, decision-read, bit-small}
+use Rattle.sequences.proofs.Nodes.{Decision, decision-read}
 use Rattle.sequences.proofs.Leading.{own-read}
 use Rattle.sequences.proofs.Recalls.{recall-none, recall-here}
 use Rattle.sequences.proofs.Stored.{own-range}
@@ -37,7 +39,7 @@ returns c g l F =
     recall-here g D (own-read F (D .below) (c .before .before .before .number3 .ensures .0) (c .before .before .own-section .ensures) l (c .before .number4 .ensures .0)) (c .lead-of .ensures .1 g (D .below) F)
 
 returns-2 : tie.Need-returns-2
-returns-2 c g l F = recall-none g _ (λ i. c .if1 .left (kind-read (F .decoded) l (c .before .number .ensures .0) ∙ i))
+returns-2 c g l F = recall-none g _ (λ i. c .if1 .left (c .before .number .ensures .0 ∙ kind-read (F .decoded) l ∙ i))
 
 pub recalls-spec : {M : Type 1} → statement M
 recalls-spec =

@@ -9,7 +9,8 @@ use Rattle.loaded.specs.Sections.{firstNodeSection, startSection}
 use Rattle.loaded.specs.Rooted.{Rooted}
 use Rattle.loaded.specs.Loaded.{Decoded, RootedIn}
 use Rattle.loaded.proofs.Decoded.{decoded-apart, rooted-apart}
-use Rattle.sequences.proofs.Nodes.{kind-read, decision-read}
+use Rattle.loaded.proofs.NodeReads.{kind-read}
+use Rattle.sequences.proofs.Nodes.{decision-read}
 use Rattle.sequences.proofs.FirstNodes.{firstFrom, firsts-none, firsts-own, firsts-other, firsts-all}
 use Rattle.sequences.proofs.sets.first_nodes.Statement.{statement}
 use Rattle.sequences.proofs.sets.first_nodes.Tie as tie
@@ -58,7 +59,7 @@ loop-again-2 c =
       omega arith,
       inv .1,
       λ g a b D R.
-          firsts-other g _ _ (λ i. c .if1 .left (kind-read (decoded-apart D (inv .1) (omega arith)) (omega (arith, a)) (c .before .number .ensures .0) ∙ i)) (inv .2 g a b D R) (omega arith) (omega (arith, a)),
+          firsts-other g _ _ (λ i. c .if1 .left (c .before .number .ensures .0 ∙ kind-read (decoded-apart D (inv .1) (omega arith)) (omega (arith, a)) ∙ i)) (inv .2 g a b D R) (omega arith) (omega (arith, a)),
     )
 
 returns : tie.Need-returns Inv-loop μ-loop

@@ -13,7 +13,7 @@ use Rattle.loaded.specs.Sections.{startSection, ownSection}
 use Rattle.loaded.specs.Sets.{firstSequence}
 use Rattle.loaded.specs.Loaded.{Decoded}
 use Rattle.loaded.proofs.Decoded.{decoded-apart}
-use Rattle.sequences.proofs.Nodes.{bit-small}
+use Rattle.loaded.proofs.Owners.{bit-small}
 use Rattle.sequences.proofs.Few.{start-small}
 use Rattle.sequences.proofs.FirstSequences.{nextNumber, next-none, next-counts, next-at, next-add}
 use Rattle.sequences.proofs.sets.first_sequences.Statement.{statement}

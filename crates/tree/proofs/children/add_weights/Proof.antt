@@ -6,6 +6,7 @@ use native.Mathlib.Omega.{arith}
 use borrow.Author.Needs.{needs}
 use Rattle.algebra.specs.Arrays.{Holds}
 use Rattle.model.specs.Game.{Game}
+use Rattle.loaded.specs.Sections.{weightSection}
 use Rattle.tree.specs.Games.{TreeIn}
 use Rattle.tree.proofs.Parents.{Hangs, weight-in, hangs}
 use Rattle.tree.proofs.Weights.{weightTo, sums-first, sums-more, sums-last, sum-small}
@@ -38,7 +39,7 @@ add-sums c =
     let known = c .before .before .before .before .before .shared-slice-known .given in
     let n = c .before .before .before .before .loop .n in
     let p = c .before .before .number .result in
-    let small = sum-small (pre .0) n p 65535 (λ w l. omega (arith, weight-in (pre .1) {n = w} (omega arith), known (20480 + w))) in
+    let small = sum-small (pre .0) n p 65535 (λ w l. omega (arith, weight-in (pre .1) {n = w} (omega arith), known (weightSection + w))) in
     omega (arith, small, c .before .before .before .before .loop .inv .2 (pre .0) (pre .1) .at p (here (c .before) .inside), c .before .number2 .ensures .1)
 
 mul-sums-2 : tie.Need-mul-sums-2 Inv-loop μ-loop

@@ -1,10 +1,12 @@
 -- The pair's refusal; or the verdict on what was evaluated, with its strategy. The answers stand before what their calls ask.
-use mathlib.Core.Path.{sym, _∙_}
+use mathlib.Core.Path.{refl, sym, _∙_}
 use native.Mathlib.Omega.{arith}
-use borrow.Author.Needs.{needs}
+use native.Mathlib.Nat.{le-refl}
+use Rattle.model.specs.Limits.{countLimit}
+use Rattle.loaded.specs.Sections.{numbersRoom, payoffsRoom}
 use Rattle.model.specs.Game.{gameOf, one, two}
 use Rattle.model.specs.Plan.{planPairOf}
-use Rattle.verdict.proofs.EvaluatedPairs.{EvaluationOpened, evaluation-opened, evaluation-refused-with, sets-are}
+use Rattle.evaluation.proofs.EvaluatedPairs.{EvaluationOpened, evaluation-opened, evaluation-refused-with, sets-are}
 use Rattle.verdict.proofs.VerdictAnswered.{pair-refused, accepted-given, strategy-given, base-is, base-asks, judge-asks, judged-as, show-asks, first-deviates, second-deviates}
 use Rattle.judgement.proofs.Judgement.{says-equilibrium}
 use Rattle.verdict.proofs.verdicts.verdict.Statement.{statement}
@@ -73,27 +75,27 @@ pub verdict-spec : {M : Type 1} → statement M
 verdict-spec =
     tie.close
     (tie.spec
-    (λ c. search needs)
-    (λ c. search needs)
-    (λ c. search needs)
-    (λ c. search needs)
-    (λ c κs. search needs)
-    (λ c. search needs)
-    (λ c. search needs)
-    (λ c κs. search needs)
+    (λ c. refl)
+    (λ c. refl)
+    (λ c. refl)
+    (λ c. refl)
+    (λ c κs. (le-refl numbersRoom, le-refl payoffsRoom, le-refl countLimit, le-refl countLimit))
+    (λ c. c .match .keys1)
+    (λ c. c .match .keys2)
+    (λ c κs. tt)
     refused
     base-requires
     judge-requires
-    (λ c. search needs)
-    (λ c. search needs)
+    (λ c. c .match2 .keys1)
+    (λ c. c .match2 .keys2)
     accepted
-    (λ c. search needs)
-    (λ c. search needs)
+    (λ c. sym (c .before .before .before .before .before .before .before .before .before .before .before .before .before .before .before .evaluate .kept .1 .1 .0))
+    (λ c. sym (c .before .before .before .before .before .before .before .before .before .before .before .before .before .before .before .before .evaluate .kept .1 .1 .1 .1 .0))
     show-requires
-    (λ c. search needs)
+    (λ c. c .before .before .show .kept .1 .1 .1 .1 .1 .1 .0)
     first-shown
-    (λ c. search needs)
-    (λ c. search needs)
+    (λ c. sym (c .before .before .before .before .before .before .before .before .before .before .before .before .before .before .before .evaluate .kept .1 .1 .0))
+    (λ c. sym (c .before .before .before .before .before .before .before .before .before .before .before .before .before .before .before .before .evaluate .kept .1 .1 .1 .1 .1 .0))
     show-requires-2
-    (λ c. search needs)
+    (λ c. c .before .before .show2 .kept .1 .1 .1 .1 .1 .1 .0)
     second-shown)

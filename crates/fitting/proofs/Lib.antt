@@ -1,0 +1,4 @@
+pub mod EachFits
+pub mod GameFits
+pub mod NodeKinds
+pub mod Refusals

@@ -1,0 +1,3 @@
+pub mod GameFiles
+pub mod Nodes
+pub mod Puttings

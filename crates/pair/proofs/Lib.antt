@@ -1,0 +1,2 @@
+pub mod PairDenominators
+pub mod Pairs

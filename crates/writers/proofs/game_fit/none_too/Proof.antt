@@ -1,7 +1,0 @@
--- Each branch is its side of the conjunction.
-use borrow.Author.Needs.{needs}
-use Rattle.writers.proofs.game_fit.none_too.Statement.{statement}
-use Rattle.writers.proofs.game_fit.none_too.Tie as tie
-
-pub none-too-spec : {M : Type 1} → statement M
-none-too-spec = tie.close (tie.spec (λ c. rw (c .if1 .taken)) (λ c. search needs))

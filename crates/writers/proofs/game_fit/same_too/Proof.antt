@@ -1,7 +1,0 @@
--- Each branch is its side of the conjunction.
-use borrow.Author.Needs.{needs}
-use Rattle.writers.proofs.game_fit.same_too.Statement.{statement}
-use Rattle.writers.proofs.game_fit.same_too.Tie as tie
-
-pub same-too-spec : {M : Type 1} → statement M
-same-too-spec = tie.close (tie.spec (λ c. rw (c .if1 .taken)) (λ c. search needs))
