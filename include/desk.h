@@ -7,9 +7,10 @@
  * two of a call's pointers may reach the same memory unless both are const.
  *
  * Each call returns the number of the refusal, or 0 for none: 1 to 13 send the game file back,
- * 14 to 16 the plan file, 17 is a number or a table that a writer cannot take, and 18 a result
- * buffer that is too short. On a refusal everything lent keeps what it held. Otherwise the
- * results stand at the front of their buffers, and what lies past them keeps what it held.
+ * 14 to 16 the plan file, 19 to 21 the play sheet, 17 is a number or a table that a writer cannot
+ * take, and 18 a result buffer that is too short. On a refusal everything lent keeps what it held.
+ * Otherwise the results stand at the front of their buffers, and what lies past them keeps what it
+ * held.
  *
  * Nothing is kept between calls, so calls may be made from several threads. A call works on its
  * stack: 2 MiB are enough as measured; nothing proves it.
@@ -117,6 +118,20 @@ uint64_t desk_report(
  */
 uint64_t desk_refusal_line(
     uint64_t number,
+    uint8_t *out, size_t out_len,
+    uint64_t *size);
+
+/* Makes the plan of a play sheet, and gives the length of its file. */
+uint64_t desk_plan_from_sheet(
+    const uint8_t *game, size_t game_len,
+    const uint8_t *sheet, size_t sheet_len,
+    uint8_t *out, size_t out_len,
+    uint64_t *size);
+
+/* Makes the play sheet of a plan, and gives its length. */
+uint64_t desk_sheet_from_plan(
+    const uint8_t *game, size_t game_len,
+    const uint8_t *plan, size_t plan_len,
     uint8_t *out, size_t out_len,
     uint64_t *size);
 

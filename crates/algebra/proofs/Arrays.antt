@@ -6,7 +6,7 @@ use native.Mathlib.Omega.{arith}
 use native.Mathlib.Nat as NatL
 use native.Mathlib.Numerals.{add-one}
 use lib.ListN.{length, getD, take, drop, set, length-append, length-drop, take-append-drop, List·getD-append}
-use lib.Seq.{length-take-le, take-at, drop-append-add, drop-drop, append-snoc, set-split}
+use lib.Seq.{length-take-le, getD-append-add, take-at, drop-append-add, drop-drop, append-snoc, set-split}
 use Rattle.algebra.specs.Bounded.{joinTo, listTo}
 use Rattle.algebra.specs.Arrays.{placed}
 use Rattle.algebra.proofs.Lists.{listTo-suc, length-listTo}
@@ -33,9 +33,20 @@ module _ {A : Type 0} where
   unfolding placed
   placed-first l out = let e : 0 + length l ≡ length l = omega arith in ap (λ (k : ℕ). l ++ drop k out) e
 
-  -- an entry that is given anew, from the first on
+  -- an entry that is given anew, from a place on
+  pub placed-from : (d : A) (at : ℕ) (l out : List A) (i : ℕ) → at ≤ length out → i < length l → getD (placed at l out) (at + i) d ≡ getD l i d
+  unfolding placed
+  placed-from d at l out i b v =
+      let front = take at out in
+      let size : length front ≡ at = length-take-le at out b in
+      ap (λ (k : List A). getD k (at + i) d) (append-assoc front l (drop (at + length l) out))
+      ∙ ap (λ (k : ℕ). getD (front ++ (l ++ drop (at + length l) out)) (k + i) d) (sym size)
+      ∙ getD-append-add front (l ++ drop (at + length l) out) i d
+      ∙ List·getD-append l (drop (at + length l) out) d i v
+
+  -- and from the first on
   pub placed-at : (d : A) (l out : List A) (i : ℕ) → i < length l → getD (placed 0 l out) i d ≡ getD l i d
-  placed-at d l out i v = ap (λ (k : List A). getD k i d) (placed-first l out) ∙ List·getD-append l _ d i v
+  placed-at d l out i v = let e : 0 + i ≡ i = omega arith in ap (λ (k : ℕ). getD (placed 0 l out) k d) (sym e) ∙ placed-from d 0 l out i (omega arith) v
 
   -- two parts, the second from where the first ends
   pub placed-twice : (at : ℕ) (a b out : List A) → at ≤ length out → placed (at + length a) b (placed at a out) ≡ placed at (a ++ b) out

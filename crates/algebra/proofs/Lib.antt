@@ -1,4 +1,5 @@
 pub mod Arrays
+pub mod Divisors
 pub mod Sections
 pub mod Elements
 pub mod Fillings

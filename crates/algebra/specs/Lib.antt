@@ -1,3 +1,4 @@
 pub mod Bounded
 pub mod Arrays
+pub mod Divisors
 pub mod Sections

@@ -15,6 +15,9 @@ ghost use Rattle.model.specs.calls.Values.{pairValues, valuesCall};
 ghost use Rattle.model.specs.calls.Verdict.{numbers, verdictNumbers};
 ghost use Rattle.model.specs.calls.Report.{reportCall};
 ghost use Rattle.model.specs.calls.RefusalLine.{refusalLine};
+ghost use Rattle.model.specs.PlanChecks.{files};
+ghost use Rattle.model.specs.calls.PlanFromSheet.{sheetFiles, MakesIn, planFromSheet};
+ghost use Rattle.model.specs.calls.SheetFromPlan.{ReturnsIn, sheetFromPlan};
 ghost use Rattle.model.specs.calls.WriteGame.{writeGame};
 ghost use Rattle.model.specs.calls.WritePlan.{writePlan};
 ghost use Rattle.model.specs.Demand3.{Demand3MetIn};
@@ -151,6 +154,34 @@ pub extern "C" fn desk_refusal_line(number: u64, out: &mut [u8], size: &mut u64)
     ensures { λ r. ⌜ leaves r (now (size .exit)) (now (out .exit), tt) ≡ exported same (now (size .entry)) (refusalLine number (now (out .entry))) ⌝ }
 {
     exported_report::refusal_line(number, out, size)
+}
+
+// Makes the plan of a play sheet, and gives the length of its file.
+#[no_mangle]
+pub extern "C" fn desk_plan_from_sheet(
+    game: &[u8],
+    sheet: &[u8],
+    out: &mut [u8],
+    size: &mut u64,
+) -> u64
+    ensures { λ r. ⌜ leaves r (now (size .exit)) (now (out .exit), tt) ≡ exported same (now (size .entry)) (planFromSheet (now (game .entry)) (now (sheet .entry)) (now (out .entry))) ⌝ }
+    ensures { λ r. ⌜ MakesIn 12 4095 (sheetFiles (now (game .entry)) (now (sheet .entry))) (now (out .entry)) (leaves r (now (size .exit)) (now (out .exit), tt)) ⌝ }
+{
+    exported_sheets::plan_from_sheet(game, sheet, out, size)
+}
+
+// Makes the play sheet of a plan, and gives its length.
+#[no_mangle]
+pub extern "C" fn desk_sheet_from_plan(
+    game: &[u8],
+    plan: &[u8],
+    out: &mut [u8],
+    size: &mut u64,
+) -> u64
+    ensures { λ r. ⌜ leaves r (now (size .exit)) (now (out .exit), tt) ≡ exported same (now (size .entry)) (sheetFromPlan (now (game .entry)) (now (plan .entry)) (now (out .entry))) ⌝ }
+    ensures { λ r. ⌜ ReturnsIn 12 4095 (files (now (game .entry)) (now (plan .entry))) (now (out .entry)) (leaves r (now (size .exit)) (now (out .exit), tt)) ⌝ }
+{
+    exported_sheets::sheet_from_plan(game, plan, out, size)
 }
 
 // Writes a plan file, from D1, D2 and all weights as one list in file order, and gives its length.

@@ -2,6 +2,7 @@
 pub use checks::WriteAnswer;
 pub use fields::FieldsAnswer;
 pub use fields::game_fields;
+pub use from_sheet::plan_from_sheet;
 pub use game_writer::write as write_game;
 pub use lookups::GameAnswer;
 pub use lookups::NodeAnswer;
@@ -23,6 +24,7 @@ pub use rows::Row;
 pub use rows::TableAnswer;
 pub use rows::payoff_rows;
 pub use table::payoff_table;
+pub use to_sheet::sheet_from_plan;
 pub use verdict::ValuesAnswer;
 pub use verdict::VerdictAnswer;
 pub use verdict::values::values;

@@ -10,3 +10,6 @@ pub mod Decoded
 pub mod NodeReads
 pub mod Chains
 pub mod SetOrder
+pub mod InOrder
+pub mod SetsRead
+pub mod Sides

@@ -7,10 +7,12 @@ use lib.Dec.{T, eqb, eqb→eq}
 use Rattle.algebra.specs.Arrays.{item}
 use Rattle.algebra.specs.Sections.{Held}
 use Rattle.algebra.proofs.Tests.{eqb-make}
-use Rattle.model.specs.Game.{Game, Player, one, two, samePlayer, playerOf, playerBit, owns}
+use Rattle.model.specs.Game.{Game, Player, one, two, samePlayer, playerOf, playerBit, owns, movesBefore}
+use Rattle.model.specs.Sequences.{moveNumber}
 use Rattle.model.specs.Writing.{playerField}
-use Rattle.model.proofs.Tree.{bit-tells, bit-below, bit-back}
+use Rattle.model.proofs.Tree.{owner, bit-tells, bit-below, bit-back}
 use Rattle.loaded.specs.Sections.{playerSection}
+use Rattle.loaded.specs.Sets.{firstSequence}
 use Rattle.loaded.specs.Loaded.{Decoded}
 
 -- what player 1 has is what the player with the bit 0 has
@@ -46,6 +48,11 @@ module _ (g : Game) {numbers : List ℕ} (held : Held playerSection (playerField
   -- and where it has another, it is not
   pub not-owner : ¬ (item numbers (playerSection + h) ≡ b) → ¬ T (owns g (playerOf b) h)
   not-owner d t = d (eqb→eq (item numbers (playerSection + h)) b (subst T (sym owner-at) t))
+
+-- the first sequence of a set of p's, by his moves before it
+pub own-start : (g : Game) (p : Player) (h : ℕ) → T (owns g p h) → firstSequence g h ≡ 1 + movesBefore g p h
+unfolding firstSequence moveNumber
+own-start g p h o = omega (arith, ap (λ (r : Player). movesBefore g r h) (owner g p h o))
 
 -- The bit of set h is read.
 module _ {g : Game} {numbers : List ℕ} (D : Decoded g numbers) {h b : ℕ} (v : h < g .sets) (e : b ≡ item numbers (playerSection + h)) where

@@ -10,7 +10,7 @@ use lib.Dec.{T, eqb, eqb→eq}
 use mir.Facts.{and-yes, yes-and}
 use Rattle.algebra.specs.Arrays.{item}
 use Rattle.algebra.specs.Bounded.{totalTo, joinTo}
-use Rattle.algebra.proofs.Elements.{Among, among-where, among-join}
+use Rattle.algebra.proofs.Elements.{Among, among-where, among-join, every-where, every-join}
 use Rattle.algebra.proofs.Lists.{length-joins, joinTo-place}
 use Rattle.algebra.proofs.Sorted.{Sorted, All, sorted-join, sorted-at}
 use Rattle.algebra.proofs.Tests.{dec, cond-yes, cond-no, eqb-make}
@@ -92,6 +92,13 @@ module _ (g : Game) (R : GameRules g) where
       let b = first-begins h l in
       subst (λ (k : ℕ). Among k (setOrder g)) (b .0) (among-join (g .nodeSet n) (g .nodes) (beginsAt g) n (first-in g R h l .1) (among-where (begins g n) (g .nodeSet n) (b .1)))
 
+  -- and each that stands there is one of the game's
+  pub order-set : (i : ℕ) → i < g .sets → item (setOrder g) i < g .sets
+  unfolding setOrder beginsAt
+  order-set i l =
+      every-join (λ h. h < g .sets) (g .nodes) (beginsAt g) (λ n v. every-where (λ h. h < g .sets) (begins g n) (g .nodeSet n) (λ t. R .decision-set n v (begins-is g n t .0))) i
+      (omega (arith, order-long))
+
   -- first nodes rise
   order-rises : (i j : ℕ) → i < j → j < length (setOrder g) → firstNode g (item (setOrder g) i) < firstNode g (item (setOrder g) j)
   unfolding setOrder beginsAt
@@ -124,3 +131,7 @@ module _ (g : Game) (R : GameRules g) where
           | no q ↦ absurd (omega (arith, less, order-rises j i (omega arith) (omega (arith, order-long)), ap (firstNode g) a, ap (firstNode g) b))
         ]
       ]
+
+  -- no set stands at two places
+  pub order-once : (i j : ℕ) → i < j → j < g .sets → ¬ (item (setOrder g) i ≡ item (setOrder g) j)
+  order-once i j u v e = omega (arith, order-rises i j u (omega (arith, order-long)), ap (firstNode g) e)

@@ -3,6 +3,8 @@ pub mod Rows
 pub mod Leaves
 pub mod Sets
 pub mod Counts
+pub mod InOrder
 pub mod Loaded
 pub mod Rooted
 pub mod Weights
+pub mod SetSequences

@@ -5,7 +5,8 @@ ghost use lib.ListN.{length, set};
 ghost use Rattle.algebra.specs.Arrays.{item, itemZ};
 ghost use Rattle.algebra.specs.Sections.{Held, Apart};
 ghost use Rattle.model.specs.Game.{playerOf};
-ghost use Rattle.loaded.specs.Sections.{ownSection, headSection};
+ghost use Rattle.loaded.specs.Sections.{ownSection, headSection, leadSection};
+ghost use Rattle.loaded.specs.SetSequences.{setSequencesIn};
 ghost use Rattle.loaded.specs.Counts.{sideOf};
 
 // How much there is of each: nodes, sets, leaves and each player's sequences; and D0.
@@ -27,6 +28,13 @@ pub struct Side {
     pub payoffs: usize,
     pub heads: usize,
     pub sequences: usize,
+}
+
+// The sequences of a set: the number of the first that ends in a move of it, how many do, and the number of the one that leads to it.
+pub struct SetSequences {
+    pub start: usize,
+    pub moves: usize,
+    pub lead: usize,
 }
 
 impl Counts {
@@ -189,4 +197,16 @@ pub fn put_payoff(payoffs: &mut [i16], section: usize, i: usize, value: i16)
     ensures { λ _. ⌜ now (payoffs .exit) ≡ set (now (payoffs .entry)) (section + i) value ⌝ }
 {
     payoffs[section + i] = value;
+}
+
+// The sequences of set `h`.
+pub fn set_sequences(numbers: &[u16], h: usize) -> SetSequences
+    requires { ⌜ leadSection + h < length (now numbers) ⌝ }
+    ensures { λ r. ⌜ r ≡ setSequencesIn (now (numbers .entry)) h ⌝ }
+{
+    SetSequences {
+        start: number(numbers, Section::START, h),
+        moves: number(numbers, Section::MOVES, h),
+        lead: number(numbers, Section::LEAD, h),
+    }
 }

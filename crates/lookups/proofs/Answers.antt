@@ -8,7 +8,6 @@ use lib.IntN.{ℤ, pos}
 use lib.Dec.{eqb}
 use Rattle.model.specs.Game.{gameOf, isLeaf, isDecision, isChance}
 use Rattle.model.specs.Sequences.{leadingNumber}
-use Rattle.model.specs.Checks.{gameRefusal}
 use Rattle.model.specs.Call.{given, refused}
 use Rattle.model.specs.Writing.{payoffField, playerField, setField, movesField}
 use Rattle.model.specs.calls.CheckGame as CheckGame
@@ -23,13 +22,10 @@ use Rattle.records.specs.declared.game_file.NodeRecord as Read
 use Rattle.records.specs.Records.{SetRead, NodeRead}
 use Rattle.records.proofs.Records.{set-player, node-set, node-moves, node-payoff1, node-payoff2}
 use Rattle.records.proofs.Headers.{header-nodes, header-sets, header-weight}
-use Rattle.loaded.specs.Counts.{countsOf}
-use Rattle.loaded.specs.Loaded.{NumbersLoaded}
-use Rattle.loaded.specs.declared.Counts.{Counts}
 use Rattle.game.specs.declared.LoadAnswer.{LoadAnswer}
 use Rattle.game.specs.declared.LoadAnswer.the-variants as Load
 use Rattle.game.specs.Load.{LoadedBy, loadRefusalOf}
-use Rattle.game.proofs.Loads.{load-accepted, load-refused}
+use Rattle.game.proofs.Loads.{load-refused}
 use Rattle.game.proofs.Refusals.{Opened, RefusedWith}
 use Rattle.lookups.specs.Records.{recordRead}
 
@@ -51,18 +47,6 @@ module _ (game : List ℕ) where
 pub set-is-read : (game : List ℕ) {i h : ℕ} (r : SetEntry) → SetRead game i r → i ≡ h → record { player = r .player; moves = r .moves } ≡ Set.entryOf (gameOf game) h
 unfolding playerField
 set-is-read game {i} r R e = rw (← e, set-player game i r R, R .moves)
-
--- A game that was loaded is accepted and has so many sets; its numbers are in the sections.
-pub record GameLoaded (game : List ℕ) (sets : ℕ) (numbers : List ℕ) : Type 0 where
-  pub none : gameRefusal game ≡ 0
-  pub sets-are : sets ≡ gameOf game .sets
-  pub in-numbers : NumbersLoaded (gameOf game) (countsOf (gameOf game)) numbers
-
-pub game-loaded : (game : List ℕ) {a : LoadAnswer} {c : Counts} {numbers : List ℕ} {payoffs : List ℤ} → LoadedBy game a numbers payoffs → a ≡ Load.Loaded c → GameLoaded game (c .sets) numbers
-unfolding countsOf
-game-loaded game L f =
-    let given = load-accepted game (L .answer) f in
-    record { none = given .0; sets-are = ap (λ (c : Counts). c .sets) (given .1); in-numbers = L .loaded (given .0) .in-numbers }
 
 -- the number of its refusal
 pub load-refuses : (game : List ℕ) {a : LoadAnswer} {k r : ℕ} {numbers : List ℕ} {payoffs : List ℤ} → LoadedBy game a numbers payoffs → a ≡ Load.Refused k → r ≡ loadRefusalOf a → RefusedWith game r

@@ -1,10 +1,11 @@
 -- Answers that are worked out by hand, proved by computation: document 01's starred cases, its listing for plan F and others,
 -- and further cases, each for a wrong turn that it bars.
-use Prim.Native.Nat.{ℕ}
+use Prim.Native.Nat.{ℕ, _+_}
 use mathlib.Core.Path.{refl}
 use mathlib.Core.List.{List, [], _∷_}
 use lib.IntN.{pos, negsuc}
 use Rattle.algebra.specs.Bounded as Bounded
+use Rattle.algebra.specs.Bounded.{listTo}
 use Rattle.model.specs.Bits as Bits
 use Rattle.model.specs.Game as Game
 use Rattle.model.specs.Game.{gameOf, one, two}
@@ -51,7 +52,7 @@ unfoldable pub drawn : List ℕ
 drawn = gameFile 3 [] [] (chance 0 0 3 2 ∷ leaf 0 0 1 (pos 1) (negsuc 0) ∷ leaf 0 1 2 (pos 4) (pos 2) ∷ [])
 
 -- set 0 follows set 1
-unfoldable backward : List ℕ
+unfoldable pub backward : List ℕ
 backward =
     gameFile 1 (0 ∷ 0 ∷ []) (2 ∷ 2 ∷ [])
     (decision 0 0 1 1
@@ -62,7 +63,7 @@ backward =
     ∷ [])
 
 -- move 1 at set 1, which ends the game
-unfoldable cautious : List ℕ
+unfoldable pub cautious : List ℕ
 cautious = planBytes 1 1 (0 ∷ 0 ∷ 0 ∷ 1 ∷ [])
 
 -- A game of amounts below zero, D0 = 3,000: with weight 1 a leaf of -1 and -2,000, and with weight 2,999 a set of player 1,
@@ -117,3 +118,7 @@ worked =
 worked-hold : AllHold worked
 unfolding doubled leaning second drawn backward cautious Bounded.opened Bits.opened Game.opened Sequences.opened GameChecks.opened Plan.opened PlanChecks.opened Rows.opened Checks.opened Table.opened Earnings.opened BestResponse.opened Verdict.opened Writing.opened Starred.opened
 worked-hold = refl then refl then refl then refl then refl then refl then end
+
+-- a buffer of so many entries, 200, 201, ..: what is kept of it is seen, and where
+unfoldable pub lent : ℕ → List ℕ
+lent n = listTo n (λ i. 200 + i)

@@ -5,7 +5,7 @@ use mathlib.Core.Logic.{_↔_}
 use mathlib.Core.List.{List}
 use native.Mathlib.Omega.{arith}
 use native.Mathlib.Nat as NatL
-use native.Mathlib.Decide.{decLt}
+use native.Mathlib.Decide.{ℕ-discrete, decLt}
 use lib.Dec.{T, ltb, ltb→lt, lt→ltb}
 use lib.ListN.{length, getD, drop}
 use lib.Seq.{getD-drop}
@@ -98,6 +98,19 @@ field-zero bytes at width = (each, λ h. numeral-zero (bit bytes) at width (λ i
         let place : at + (i - at) ≡ i = omega arith in
         let digit = numeral-digit (bit bytes) (bit-small bytes) at width (i - at) (omega arith) in
         rw (place, e, NatL.zero-div) at (sym digit)
+
+-- and is not 0 exactly where one of them is not
+pub field-some : (bytes : List ℕ) (at width : ℕ) → ¬ (field bytes at width ≡ 0) ↔ ((i : ℕ) × (at ≤ i) × (i < at + width) × ¬ (bit bytes i ≡ 0))
+unfolding field numeral
+field-some bytes at width = (some width, λ r e. r .3 (field-zero bytes at width .0 e (r .0) (r .1) (r .2)))
+  where
+    some : (width : ℕ) → ¬ (numeral (bit bytes) at width ≡ 0) → (i : ℕ) × (at ≤ i) × (i < at + width) × ¬ (bit bytes i ≡ 0)
+    some zero n = absurd (n refl)
+    some (suc width) n =
+        elim (ℕ-discrete (bit bytes (at + width)) 0) [
+          | yes z ↦ let (i, l, m, d) = some width (λ e. n (omega arith)) in (i, l, omega arith, d)
+          | no d ↦ (at + width, omega arith, omega arith, d)
+        ]
 
 -- a run has as many fields as are asked for
 pub length-fields : (bytes : List ℕ) (at width count : ℕ) → length (fields bytes at width count) ≡ count

@@ -1,13 +1,16 @@
 -- The general law of a call: where its rows are decided, it answers as demand 1 says.
-use Prim.Native.Nat.{ℕ, zero, suc}
+use Prim.Native.Nat.{ℕ, zero, suc, _≤_}
 use mathlib.Core.Path.{_≡_, refl, sym, ap, _∙_, subst}
 use mathlib.Core.Bool.{true, false, cond}
 use mathlib.Core.List.{List, [], _∷_}
+use mathlib.Core.Logic.{_↔_}
 use native.Mathlib.Omega.{arith}
+use lib.ListN.{length, take, drop}
+use lib.Seq.{take-append-seam}
 use Rattle.model.proofs.Decisions.{Decides, itself-iff, leb-iff, and-iff}
 use Rattle.model.proofs.Reasons.{room-fails}
 use Rattle.model.specs.Rows.{of, refusal, First}
-use Rattle.model.specs.Call.{given, refused, Buffers, lengths, longEnough, RoomFor, afterCall, afterAll, Lent, Call, Outcome, outcome, answerOf, roomRows, allRows, callRefusal, run}
+use Rattle.model.specs.Call.{Answer, given, refused, Buffers, lengths, longEnough, RoomFor, afterCall, afterAll, Lent, Call, Outcome, outcome, answerOf, roomRows, allRows, callRefusal, run}
 use Rattle.model.specs.Demand1.{Clause}
 use Rattle.model.proofs.Rows.{Decided, Any, decided-one, pass-of, decided-of, refusal-after, decided-append, taken-iff, first-iff}
 
@@ -70,3 +73,26 @@ good-run {I = I} {shape = shape} c d i b h =
 pub same-good-run : {I J R : Type 0} {shape : List (Type 0)} {Good : I → Type 0} {Fine : J → Type 0} (c : Call I shape R) (e : Call J shape R) → Decided Any (c .rows) Good → Decided Any (e .rows) Fine → (i : I) (j : J) (b : Buffers shape) → Good i → Fine j → c .result i ≡ e .result j → c .written i ≡ e .written j → run c i b ≡ run e j b
 same-good-run {shape = shape} c e dc de i j b good fine result written =
     good-run c dc i b good ∙ (λ k. leftIn {shape = shape} (result k) (written k) b) ∙ sym (good-run e de j b fine)
+
+-- the answer is a refusal exactly where that is the call's refusal
+pub refused-iff : {I R : Type 0} {shape : List (Type 0)} (c : Call I shape R) (i : I) (b : Buffers shape) (k : ℕ) → (run c i b .answer ≡ refused (suc k)) ↔ (callRefusal c i b ≡ suc k)
+unfolding run
+refused-iff {R = R} c i b k = go (callRefusal c i b)
+  where
+    number : Answer R → ℕ
+    number (given r) = 0
+    number (refused n) = n
+
+    go : (n : ℕ) → (answerOf n (c .result i) ≡ refused (suc k)) ↔ (n ≡ suc k)
+    go zero = (λ e. ap number e, λ e. absurd (omega arith))
+    go (suc n) = (λ e. ap number e, λ e. ap refused e)
+
+-- A call that gives the length of what it writes to its one buffer: of a good input, with room, that length is given and stands at the front.
+pub gives-front : {I A : Type 0} {Good : I → Type 0} (c : Call I (A ∷ []) ℕ) → Decided Any (c .rows) Good → (i : I) (out : List A) → c .result i ≡ length (c .written i .0) → Good i → length (c .written i .0) ≤ length out → let size = length (c .written i .0) in (run c i (out, tt) .answer ≡ given size) × (take size (run c i (out, tt) .buffers .0) ≡ c .written i .0)
+unfolding afterCall
+gives-front {A = A} c d i out size good room =
+    let l = c .written i .0 in
+    let e = clause c d .taken i (out, tt) good (room, tt) in (
+      ap (λ (o : Outcome (A ∷ []) ℕ). o .answer) e ∙ ap given size,
+      ap (λ (o : Outcome (A ∷ []) ℕ). take (length l) (o .buffers .0)) e ∙ take-append-seam l (drop (length l) out),
+    )

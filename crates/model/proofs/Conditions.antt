@@ -8,10 +8,11 @@ use native.Mathlib.Decide.{decLt}
 use lib.Dec.{lit<}
 use lib.ListN.{length, getD, List·getD-eq-default}
 use Rattle.algebra.specs.Bounded as Bounded
+use Rattle.algebra.specs.Divisors as Divisors
 use Rattle.model.specs.Bits as Bits
 use Rattle.model.specs.Bits.{pack, packed}
 use Rattle.model.specs.Game as Game
-use Rattle.model.specs.Game.{gameOf, Player, one, two}
+use Rattle.model.specs.Game.{Game, gameOf, Player, one, two}
 use Rattle.model.specs.Sequences as Sequences
 use Rattle.model.specs.Rows as Rows
 use Rattle.model.specs.Checks as Checks
@@ -23,10 +24,15 @@ use Rattle.model.specs.PlanChecks as PlanChecks
 use Rattle.model.specs.PlanChecks.{Files, files}
 use Rattle.model.specs.Writing as Writing
 use Rattle.model.specs.Writing.{GameFields, PlanFields, planFields, fieldsOf, gameBytes, planBytes}
+use Rattle.model.specs.PlanOrder.{planFileOf}
+use Rattle.model.specs.Sheet as Sheet
+use Rattle.model.specs.Sheet.{Odds, MoveOf, Serves, smallestD, OverSmallest}
 use Rattle.model.specs.Rules.{GameRules, GameFile, PlanFile, GoodFiles, FieldsFit, PlanFieldsFit}
 use Rattle.model.specs.Call.{RoomFor}
 use Rattle.model.specs.calls.Asked.{asked}
 use Rattle.model.specs.calls.WritePlan.{bytesOf}
+use Rattle.model.specs.calls.PlanFromSheet.{SheetFiles, sheetFiles, sheetRows, madePlan, GoodSheet}
+use Rattle.model.specs.calls.SheetFromPlan.{madeSheet}
 use Rattle.model.specs.Demand1.{InGame}
 use Rattle.model.specs.Demand2.{IsBytes}
 use Rattle.model.specs.Starred as Starred
@@ -35,6 +41,10 @@ use Rattle.model.proofs.Bits.{numeral-fits, length-packed, packed-at}
 use Rattle.model.proofs.Spelling.{BitList}
 use Rattle.model.proofs.Rules.{fields-fit-iff, plan-fields-fit-iff}
 use Rattle.model.proofs.Checks.{game-file-iff, plan-file-iff}
+use Rattle.model.proofs.Rows.{taken-iff}
+use Rattle.model.proofs.Sheets.{smallest-positive, smallest-serves}
+use Rattle.model.proofs.calls.PlanFromSheet as PlanFromSheet
+use Rattle.model.proofs.calls.SheetFromPlan as SheetFromPlan
 use Rattle.model.proofs.GameTrips.{gameBits, game-is, bitlist-game, game-file-trip}
 use Rattle.model.proofs.PlanTrips.{planBits, plan-is, bitlist-plan, plan-file-trip}
 
@@ -114,3 +124,27 @@ plans-fit f good p = good .1 .fit p
 pub exact-room : (results : List ℕ) → RoomFor results results
 exact-room [] = tt
 exact-room (n ∷ results) = (omega arith, exact-room results)
+
+-- `MoveOf`: by the last move of player 2's set in the game of document 003
+pub move-of : MoveOf (gameOf study) two 1 1
+unfolding Bounded.opened Bits.opened Game.opened Writing.opened Starred.opened
+move-of = record { set = lit< tt; owned = tt; move = lit< tt }
+
+-- `SheetFile`, `GoodSheet`: by the odds 1, 0, 1, 2 and 1, 2 with that game
+pub good-sheet : GoodSheet 12 4095 (sheetFiles study (0x00 ∷ 0x10 ∷ 0x00 ∷ 0x00 ∷ 0x10 ∷ 0x02 ∷ 0x00 ∷ 0x10 ∷ 0x02 ∷ []))
+unfolding sheetRows Bounded.opened Divisors.opened Bits.opened Game.opened Sequences.opened Rows.opened Checks.opened GameChecks.opened Plan.opened Sheet.opened Writing.opened Starred.opened
+good-sheet = taken-iff (PlanFromSheet.rows-decided 12 4095) _ .1 refl
+
+-- and by the sheet made of any good plan file
+pub sheet-made : (f : Files) → GoodFiles f → GoodSheet 12 4095 (sheetFiles (f .game) (madeSheet 12 f))
+sheet-made f good = (good .0, SheetFromPlan.comes-back 12 4095 (omega arith) (omega arith) f good .taken)
+
+-- `Serves`: by the smallest D of any odds
+pub some-serves : (g : Game) → GameRules g → (odds : Odds) (p : Player) → (d : ℕ) × (0 < d) × Serves g odds p d
+some-serves g R odds p = (smallestD g odds p, smallest-positive g odds R p, smallest-serves g odds R p)
+
+-- `OverSmallest`: by the plan made of any odds (`SheetTrips`, `made-over-smallest`). What is asked of a plan file that is to come back
+-- bit for bit: by the file made of any good sheet
+pub file-least : (f : SheetFiles) → GoodSheet 12 4095 f → let plan = madePlan 12 f in GoodFiles (files (f .game) plan) × IsBytes plan × ((p : Player) → OverSmallest (gameOf (f .game)) p (planPairOf (gameOf (f .game)) plan p))
+unfolding planFileOf
+file-least f good = ((good .0, PlanFromSheet.made-of 12 4095 (omega arith) f good .file), plan-bytes _ _ _, PlanFromSheet.made-least 12 4095 (omega arith) f good)

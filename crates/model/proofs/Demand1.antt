@@ -18,6 +18,8 @@ use Rattle.model.proofs.calls.RewriteGame as RewriteGame
 use Rattle.model.proofs.calls.RewritePlan as RewritePlan
 use Rattle.model.proofs.calls.RereadGame as RereadGame
 use Rattle.model.proofs.calls.RereadPlan as RereadPlan
+use Rattle.model.proofs.calls.PlanFromSheet as PlanFromSheet
+use Rattle.model.proofs.calls.SheetFromPlan as SheetFromPlan
 
 pub demand1 : Demand1
 demand1 = record {
@@ -40,4 +42,6 @@ demand1 = record {
   rewrite-plan = RewritePlan.demand1;
   reread-game = RereadGame.demand1;
   reread-plan = RereadPlan.demand1;
+  plan-from-sheet = PlanFromSheet.demand1 12 4095;
+  sheet-from-plan = SheetFromPlan.demand1 12;
 }

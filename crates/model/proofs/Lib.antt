@@ -1,3 +1,4 @@
+pub mod AllSheets
 pub mod AllStarred
 pub mod BestResponses
 pub mod Bits
@@ -21,6 +22,8 @@ pub mod GameTrips
 pub mod Numbers
 pub mod Overall
 pub mod Packing
+pub mod PlanFiles
+pub mod PlanOrder
 pub mod PlanRules
 pub mod PlanTrips
 pub mod Prices
@@ -32,6 +35,11 @@ pub mod Rules
 pub mod SamePlans
 pub mod SequenceForm
 pub mod Sequences
+pub mod SheetFiles
+pub mod SheetPromises
+pub mod SheetRules
+pub mod SheetTrips
+pub mod Sheets
 pub mod Spelling
 pub mod Strategies
 pub mod Table

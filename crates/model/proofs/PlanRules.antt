@@ -11,13 +11,27 @@ use Rattle.model.specs.Game.{Game, Player, one, two, owns}
 use Rattle.model.specs.Sequences.{leading}
 use Rattle.model.specs.Plan.{RealizationPlan, PlanPair, sequenceWeight, balanced, fits, pairFits, planMoves, weightBit, planPairOf}
 use Rattle.model.specs.PlanChecks.{planLength, planHasLength, filling, planWellFormed}
-use Rattle.model.proofs.Bits.{field-zero}
-use Rattle.model.proofs.Decisions.{Decides, itself-iff, eqb-iff, ltb-iff, same-iff, and-iff, implies-iff, all-iff}
+use Rattle.model.proofs.Bits.{field-zero, field-some}
+use Rattle.model.proofs.Decisions.{Decides, Fails, itself-iff, eqb-iff, ltb-iff, same-iff, and-iff, implies-iff, all-iff, same-fails, eqb-fails}
 
 -- what holds of both players holds of each
-each-player : (P : Player → Type 0) → P one × P two → (p : Player) → P p
+pub each-player : (P : Player → Type 0) → P one × P two → (p : Player) → P p
 each-player P h one = h .0
 each-player P h two = h .1
+
+-- What stands in a file from a bit on: it is 0 exactly where each of its bits is,
+pub rest-iff : (bytes : List ℕ) (from : ℕ) → Decides (eqb (field bytes from (8 * length bytes - from)) 0) ((i : ℕ) → from ≤ i → i < 8 * length bytes → bit bytes i ≡ 0)
+rest-iff bytes from =
+    let width = 8 * length bytes - from in
+    let zeros = field-zero bytes from width in
+    same-iff (λ e i l m. zeros .0 e i l (omega arith)) (λ h. zeros .1 (λ i l m. h i l (omega arith))) (eqb-iff (field bytes from width) 0)
+
+-- and is not where one of them is not.
+pub rest-fails : (bytes : List ℕ) (from : ℕ) → Fails (eqb (field bytes from (8 * length bytes - from)) 0) ((i : ℕ) × (from ≤ i) × (i < 8 * length bytes) × ¬ (bit bytes i ≡ 0))
+rest-fails bytes from =
+    let width = 8 * length bytes - from in
+    let some = field-some bytes from width in
+    same-fails (λ n. let (i, l, m, d) = some .0 n in (i, l, omega arith, d)) (λ r. let (i, l, m, d) = r in some .1 (i, l, omega arith, d)) (eqb-fails (field bytes from width) 0)
 
 module _ (g : Game) where
   -- check 14
@@ -28,11 +42,7 @@ module _ (g : Game) where
   -- the filling is 0 exactly where each of its bits is
   filling-iff : (bytes : List ℕ) → Decides (eqb (filling g bytes) 0) ((i : ℕ) → 32 + 12 * planMoves g ≤ i → i < 8 * length bytes → bit bytes i ≡ 0)
   unfolding filling weightBit
-  filling-iff bytes =
-      let from = 32 + 12 * planMoves g in
-      let width = 8 * length bytes - from in
-      let zeros = field-zero bytes from width in
-      same-iff (λ e i l m. zeros .0 e i l (omega arith)) (λ h. zeros .1 (λ i l m. h i l (omega arith))) (eqb-iff (field bytes from width) 0)
+  filling-iff bytes = rest-iff bytes (32 + 12 * planMoves g)
 
   -- check 15
   pub well-formed-iff : (bytes : List ℕ) → Decides (planWellFormed g bytes) ((field bytes 0 4 ≡ 1) × ((p : Player) → 0 < planPairOf g bytes p .denominator) × (field bytes 28 4 ≡ 0) × ((i : ℕ) → 32 + 12 * planMoves g ≤ i → i < 8 * length bytes → bit bytes i ≡ 0))

@@ -19,7 +19,7 @@ use Rattle.model.proofs.Spelling.{BitList, bitlist-append, bitlist-cell
 
 module _ (d1 d2 : ℕ) (weights : List ℕ) where
   -- the header
-  abbrev headerCells : List Cell
+  abbrev pub headerCells : List Cell
   headerCells = (4, 1) ∷ (12, d1) ∷ (12, d2) ∷ (4, 0) ∷ []
 
   -- the bits of the file
@@ -41,7 +41,7 @@ module _ (d1 d2 : ℕ) (weights : List ℕ) where
   length-plan = rw plan-is (length-pack planBits bitlist-plan ∙ omega arith)
 
   -- a file has these bits where its header is the cells and its weights are the weights
-  spells-plan : PlanFitting d1 d2 weights → (bytes : List ℕ) → Spells bytes 0 planBits ↔ (Holds bytes 0 0 headerCells × (fields bytes 32 12 (length weights) ≡ weights))
+  pub spells-plan : PlanFitting d1 d2 weights → (bytes : List ℕ) → Spells bytes 0 planBits ↔ (Holds bytes 0 0 headerCells × (fields bytes 32 12 (length weights) ≡ weights))
   unfolding planBits
   spells-plan fit bytes =
       let whole = spells-append bytes 0 32 (bitlist-cells headerCells refl) in

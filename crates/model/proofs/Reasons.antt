@@ -186,11 +186,11 @@ module _ (bytes : List ℕ) where
       )
 
 -- what applies to one of two players
-either-player : (P : Player → Type 0) → P one ⊎ P two → (p : Player) × P p
+pub either-player : (P : Player → Type 0) → P one ⊎ P two → (p : Player) × P p
 either-player P (inl h) = (one, h)
 either-player P (inr h) = (two, h)
 
-which-player : (P : Player → Type 0) → (p : Player) → P p → P one ⊎ P two
+pub which-player : (P : Player → Type 0) → (p : Player) → P p → P one ⊎ P two
 which-player P one h = inl h
 which-player P two h = inr h
 

@@ -1,6 +1,6 @@
 -- The general law of rows: from one fact a row to what demand 1 says.
 use Prim.Native.Nat.{ℕ, _<_}
-use mathlib.Core.Path.{_≡_, refl, _∙_}
+use mathlib.Core.Path.{_≡_, refl, sym, _∙_}
 use mathlib.Core.Logic.{_↔_, Iff·symm, Iff·trans, _⊎_, inl, inr}
 use mathlib.Core.Bool.{Bool, true, false, not, _&&_, cond}
 use mathlib.Core.List.{[], _∷_, _++_}
@@ -8,7 +8,7 @@ use lib.Dec.{T, eqb, T-not, ltb, ltb→lt}
 use mir.Facts.{and-yes, yes-and}
 use Rattle.algebra.proofs.Tests.{eqb-make, dec, cond-yes}
 use Rattle.model.proofs.Decisions.{Decides, Fails}
-use Rattle.model.specs.Rows.{Rows, row, of, refusal, First}
+use Rattle.model.specs.Rows.{Row, Rows, row, of, refusal, First}
 
 -- no row has the number 0, which says that there is no refusal
 abbrev pub named : {A : Type 0} → Rows A → Bool
@@ -74,10 +74,6 @@ Any a = Unit {0}
 -- one fact a row is enough: good is what no refusal applies to
 pub decided : {A : Type 0} {Before : A → Type 0} (rows : Rows A) → T (named rows) → ((a : A) → Before a → Sound rows a) → Decided Before rows (NoneApplies rows)
 decided rows n s = record { numbered = n; sound = s; good = λ a k. none-applies rows a (s a k) }
-
--- good said in other words
-pub decided-as : {A : Type 0} {Before Good Fine : A → Type 0} {rows : Rows A} → ((a : A) → Before a → Fine a ↔ Good a) → Decided Before rows Good → Decided Before rows Fine
-decided-as same d = record { numbered = d .numbered; sound = d .sound; good = λ a k. Iff·trans (same a k) (d .good a k) }
 
 -- one row
 pub decided-one : {A : Type 0} {Before Good Applies : A → Type 0} (k : ℕ) (test : A → Bool) → T (not (eqb k 0) && true) → ((a : A) → Before a → Decides (test a) (Good a)) → ((a : A) → Before a → Fails (test a) (Applies a)) → Decided Before (row k test Applies ∷ []) Good
@@ -180,3 +176,36 @@ refusal-below (r ∷ rows) a n z t =
     go : (b : Bool) → r .number < n → refusal rows a < n → cond b (refusal rows a) (r .number) < n
     go true this later = later
     go false this later = this
+
+-- no row has the number k
+abbrev pub lacks : {A : Type 0} → (k : ℕ) → Rows A → Bool
+lacks k [] = true
+lacks k (r ∷ rows) = not (eqb (r .number) k) && lacks k rows
+
+-- then it is not the refusal
+refusal-other : {A : Type 0} (rows : Rows A) (a : A) (k : ℕ) → ¬ (k ≡ 0) → T (lacks k rows) → ¬ (refusal rows a ≡ k)
+unfolding refusal
+refusal-other [] a k some t = λ e. some (sym e)
+refusal-other (r ∷ rows) a k some t =
+    let h = and-yes (not (eqb (r .number) k)) (lacks k rows) t in
+    go (r .test a) (λ e. T-not (eqb (r .number) k) (h .0) (eqb-make (r .number) k e)) (refusal-other rows a k some (h .1))
+  where
+    go : (b : Bool) → ¬ (r .number ≡ k) → ¬ (refusal rows a ≡ k) → ¬ (cond b (refusal rows a) (r .number) ≡ k)
+    go true this later = later
+    go false this later = this
+
+-- the number of a row that no other has is the refusal exactly where the rows before it pass and it does not
+pub refusal-at : {A : Type 0} (c d : Rows A) (r : Row A) (a : A) → ¬ (r .number ≡ 0) → T (lacks (r .number) c) → T (lacks (r .number) d) → (refusal (c ++ r ∷ d) a ≡ r .number) ↔ (AllPass c a × ¬ T (r .test a))
+unfolding refusal
+refusal-at [] d r a some before after = go (r .test a) (refusal-other d a (r .number) some after)
+  where
+    go : (b : Bool) → ¬ (refusal d a ≡ r .number) → (cond b (refusal d a) (r .number) ≡ r .number) ↔ (Unit {0} × ¬ T b)
+    go true later = (λ e. absurd (later e), λ h. absurd (h .1 tt))
+    go false later = (λ e. (tt, λ t. t), λ h. refl)
+refusal-at (s ∷ c) d r a some before after =
+    let h = and-yes (not (eqb (s .number) (r .number))) (lacks (r .number) c) before in
+    go (s .test a) (λ e. T-not (eqb (s .number) (r .number)) (h .0) (eqb-make (s .number) (r .number) e)) (refusal-at c d r a some (h .1) after)
+  where
+    go : (b : Bool) → ¬ (s .number ≡ r .number) → (refusal (c ++ r ∷ d) a ≡ r .number) ↔ (AllPass c a × ¬ T (r .test a)) → (cond b (refusal (c ++ r ∷ d) a) (s .number) ≡ r .number) ↔ ((T b × AllPass c a) × ¬ T (r .test a))
+    go true this later = (λ e. let (p, n) = later .0 e in ((tt, p), n), λ h. later .1 (h .0 .1, h .1))
+    go false this later = (λ e. absurd (this e), λ h. absurd (h .0 .0))

@@ -188,14 +188,22 @@ spells-run bytes at width numbers fit =
     cell : (i : ℕ) → Spells bytes (at + width * i) (bits width (getD numbers i 0)) ↔ (field bytes (at + width * i) width ≡ getD numbers i 0)
     cell i = spells-bits bytes (at + width * i) width (getD numbers i 0) (fit i)
 
+-- every bit of packed bits, those that fill the last byte among them
+pack-bit : {k : ℕ} (l : List ℕ) → BitList k l → (i : ℕ) → i < 8 * length (pack l) → bit (pack l) i ≡ getD l i 0
+unfolding pack
+pack-bit l p i v =
+    let n = (length l + 7) / 8 in
+    let place : 8 * (i / 8) + i % 8 ≡ i = omega arith in
+    rw (← place, bit-of-byte (packed n l) (i / 8) (i % 8) (omega arith), packed-at n l (i / 8) (omega (arith, length-packed n l)), numeral-digit (λ j. getD l j 0) (p .small) (8 * (i / 8)) 8 (i % 8) (omega arith))
+
 -- bits packed into bytes are read back
 pub pack-spells : {k : ℕ} (l : List ℕ) → BitList k l → Spells (pack l) 0 l
 unfolding pack
-pack-spells l p = record {
-  same = λ i v.
-      let place : 8 * (i / 8) + i % 8 ≡ i = omega arith in
-      rw (NatL.zero-add, ← place, bit-of-byte (packed ((length l + 7) / 8) l) (i / 8) (i % 8) (omega arith), packed-at ((length l + 7) / 8) l (i / 8) (omega arith), numeral-digit (λ j. getD l j 0) (p .small) (8 * (i / 8)) 8 (i % 8) (omega arith));
-}
+pack-spells l p = record { same = λ i v. rw NatL.zero-add (sym (pack-bit l p i (omega (arith, length-packed ((length l + 7) / 8) l)))) }
+
+-- and those that fill the last byte are zero
+pub pack-filling : {k : ℕ} (l : List ℕ) → BitList k l → (i : ℕ) → k ≤ i → i < 8 * length (pack l) → bit (pack l) i ≡ 0
+pack-filling l p i b v = pack-bit l p i v ∙ List·getD-eq-default l 0 {n = i} (omega (arith, p .sized))
 
 -- as many bytes as hold the bits
 pub length-pack : {k : ℕ} (l : List ℕ) → BitList k l → length (pack l) ≡ (k + 7) / 8

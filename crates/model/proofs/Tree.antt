@@ -305,3 +305,12 @@ module _ (g : Game) (R : GameRules g) where
   -- the children of n, by their moves: each move has one
   pub children : (n : ℕ) → n < g .nodes → (f : ℕ → ℕ) → totalTo (g .nodes) (λ c. only (below g n c) (f (g .move c))) ≡ totalTo (nodeMoves g n) f
   children = tree-children g (tree-rules R)
+
+-- What holds of the empty sequence, and of a sequence with a move more where it holds of the one that leads to the set, holds of every sequence of p's.
+pub along-sequences : (g : Game) → GameRules g → (p : Player) (P : Sequence → Type 0) → P [] → ((h m : ℕ) → h < g .sets → T (owns g p h) → m < g .setMoves h → P (leading g h) → P (extended (leading g h) h m)) → (s : Sequence) → IsSequence g p s → P s
+along-sequences g R p P none more s i = go (suc (length s)) s (omega arith) i
+  where
+    go : (k : ℕ) (s : Sequence) → length s < k → IsSequence g p s → P s
+    go zero s b i = absurd (omega arith)
+    go (suc k) s b empty = none
+    go (suc k) s b (after {h = h} {m = m} l o v) = more h m l o v (go k (leading g h) (omega (arith, extended-length (leading g h) h m)) (leading-sequence g R p h l o))

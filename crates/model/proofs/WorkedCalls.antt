@@ -66,11 +66,7 @@ use Rattle.model.specs.calls.RereadPlan as RereadPlan
 use Rattle.model.specs.calls.RereadPlan.{rereadPlan}
 use Rattle.model.specs.Starred as Starred
 use Rattle.model.specs.Starred.{study, planM, planF, single, bare, absentMinded, row, Case, _is_, AllHold, end, _then_}
-use Rattle.model.proofs.AllStarred.{leaning, second, drawn}
-
--- a buffer of so many entries, 200, 201, ..: what is kept of it is seen, and where
-unfoldable lent : ℕ → List ℕ
-lent n = listTo n (λ i. 200 + i)
+use Rattle.model.proofs.AllStarred.{leaning, second, drawn, lent}
 
 -- a buffer of integers, -1, -2, ..
 unfoldable lentZ : ℕ → List ℤ

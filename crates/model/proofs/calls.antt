@@ -6,6 +6,7 @@ pub mod NodeRecord
 pub mod OwnSequence
 pub mod PayoffTable
 pub mod PlanFields
+pub mod PlanFromSheet
 pub mod RefusalLine
 pub mod Report
 pub mod RereadGame
@@ -13,6 +14,7 @@ pub mod RereadPlan
 pub mod RewriteGame
 pub mod RewritePlan
 pub mod SetEntry
+pub mod SheetFromPlan
 pub mod Values
 pub mod Verdict
 pub mod WriteGame

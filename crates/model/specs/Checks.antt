@@ -6,7 +6,7 @@ use mathlib.Core.List.{List, [], _∷_, _++_}
 use lib.ListN.{length}
 use lib.Dec.{T}
 use Rattle.model.specs.Bits.{field}
-use Rattle.model.specs.Game.{Game, gameOf, Player, inSet}
+use Rattle.model.specs.Game.{gameOf, Player, inSet}
 use Rattle.model.specs.GameChecks.{hasHeader, hasEdition, countsPositive, hasLength, setMovesInRange, recordsWellFormed, payloadsInRange, nodesAttached, movesLeadOn, weightsObeyRules, pathsInLimit, setsNonEmpty, perfectRecall}
 use Rattle.model.specs.Plan.{planMoves, planPairOf, pairFits}
 use Rattle.model.specs.PlanChecks.{Files, files, planHasLength, planWellFormed}

@@ -26,6 +26,8 @@ use Rattle.model.specs.calls.RewriteGame as RewriteGame
 use Rattle.model.specs.calls.RewritePlan as RewritePlan
 use Rattle.model.specs.calls.RereadGame as RereadGame
 use Rattle.model.specs.calls.RereadPlan as RereadPlan
+use Rattle.model.specs.calls.PlanFromSheet as PlanFromSheet
+use Rattle.model.specs.calls.SheetFromPlan as SheetFromPlan
 
 -- What demand 1 says of a call.
 pub record Clause {I R : Type 0} {shape : List (Type 0)} (c : Call I shape R) (Good : I → Type 0) : Type 0 where
@@ -58,3 +60,5 @@ pub record Demand1 : Type 0 where
   pub rewrite-plan : Clause RewritePlan.call GoodFiles
   pub reread-game : Clause RereadGame.call (λ t. FieldsFit t × GameFile (gameBytes t))
   pub reread-plan : Clause RereadPlan.call (λ t. PlanFieldsFit (t .fields) × GoodFiles (RereadPlan.filesOf t))
+  pub plan-from-sheet : Clause (PlanFromSheet.call 12 4095) (PlanFromSheet.GoodSheet 12 4095)
+  pub sheet-from-plan : Clause (SheetFromPlan.call 12) GoodFiles

@@ -12,6 +12,7 @@ pub mod Game
 pub mod GameChecks
 pub mod Limits
 pub mod Plan
+pub mod PlanOrder
 pub mod PlanChecks
 pub mod Prices
 pub mod Reasons
@@ -19,6 +20,8 @@ pub mod Report
 pub mod Rows
 pub mod Rules
 pub mod Sequences
+pub mod Sheet
+pub mod SheetPromises
 pub mod Starred
 pub mod Table
 pub mod Verdict

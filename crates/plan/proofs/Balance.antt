@@ -24,9 +24,8 @@ use Rattle.checks.proofs.Chains.{first-broken, then-second}
 use Rattle.loaded.specs.declared.Counts.{Counts}
 use Rattle.loaded.specs.Loaded.{NumbersLoaded}
 use Rattle.loaded.specs.Sections.{playerSection, movesSection, startSection, leadSection}
-use Rattle.loaded.specs.Sets.{firstSequence}
 use Rattle.loaded.specs.Weights.{planByNumber, pairByNumber}
-use Rattle.loaded.proofs.Owners.{owner-at}
+use Rattle.loaded.proofs.Owners.{owner-at, own-start}
 use Rattle.loaded.proofs.Weights.{weight-at}
 use Rattle.plan.specs.Loaded.{LoadedIn, SetsLoaded, FitsAsked}
 use Rattle.plan.proofs.Refusals.{counted, room}
@@ -43,12 +42,7 @@ pub record SetRead (numbers : List ℕ) (h start moves lead : ℕ) : Type 0 wher
 
 -- A set of p's.
 module _ (g : Game) (p : Player) (h : ℕ) (o : T (owns g p h)) where
-  -- its first sequence is his
-  begins : firstSequence g h ≡ 1 + movesBefore g p h
-  unfolding firstSequence moveNumber
-  begins = omega (arith, ap (λ (r : Player). movesBefore g r h) (owner g p h o))
-
-  -- and so is the one that leads to it
+  -- the sequence that leads to it is his
   leads : leadingNumber g h ≡ sequenceNumber g p (leading g h)
   unfolding leadingNumber
   leads = ap (λ (r : Player). sequenceNumber g r (leading g h)) (owner g p h o)
@@ -73,7 +67,7 @@ module _ {g : Game} {numbers : List ℕ} (S : SetsLoaded g numbers) (h : ℕ) (l
           let p = playerOf b in
           let o = true→T (owns g p h) own-set in
           let many : moves ≡ g .setMoves h = at .moves-are ∙ S .moves .at 0 h l in
-          let from : start ≡ 1 + movesBefore g p h = at .start-is ∙ S .starts .at 0 h l ∙ begins g p h o in
+          let from : start ≡ 1 + movesBefore g p h = at .start-is ∙ S .starts .at 0 h l ∙ own-start g p h o in
           let last : 0 + lead ≡ sequenceNumber g p (leading g h) = omega (arith, at .lead-is, S .leads .at 0 h l, leads g p h o) in
           rw (own-set, e, f, many, last, weight-at g p (item x) (leading g h))
           (ap (λ (k : ℕ). eqb k (item x (sequenceNumber g p (leading g h)))) (count-cong (g .setMoves h) _ _ (λ i v. ap (λ (k : ℕ). item x (k + i)) from)))
@@ -94,7 +88,7 @@ weight-places {h} {b} F read is at =
     let o = true→T (owns g p h) (own-set S h l b (F .known) read is) in
     record {
       few = omega (arith, at .moves-are, S .moves .at 0 h l, S .rules .set-moves h l);
-      block = omega (arith, at .moves-are, S .moves .at 0 h l, at .start-is, S .starts .at 0 h l, begins g p h o, moves-block g p h (g .sets) l o, F .weights-long);
+      block = omega (arith, at .moves-are, S .moves .at 0 h l, at .start-is, S .starts .at 0 h l, own-start g p h o, moves-block g p h (g .sets) l o, F .weights-long);
       below = omega (arith, at .lead-is, S .leads .at 0 h l, leads g p h o, number-below g p (leading g h) (leading-sequence g (S .rules) p h l o), F .weights-long);
     }
 

@@ -18,8 +18,8 @@ use loaded::Counts;
 use loaded::Section;
 use records::PlanHeader;
 
-// The sum of the weights of a set's moves, the first at `start`.
-fn moves_weight(x: &[u16], start: usize, moves: usize) -> usize
+// The sum of the numbers of a set's moves, the first at `start`: weights, or odds.
+pub fn moves_total(x: &[u16], start: usize, moves: usize) -> usize
     requires { ⌜ (moves ≤ 64) × (start + moves ≤ length (now x)) ⌝ }
     ensures { λ r. ⌜ r ≡ totalTo moves (λ m. item (now (x .entry)) (start + m)) ⌝ }
 {
@@ -41,7 +41,7 @@ fn set_balanced(numbers: &[u16], h: usize, player: usize, x: &[u16]) -> bool
         let start = loaded::number(numbers, Section::START, h);
         let moves = loaded::number(numbers, Section::MOVES, h);
         let lead = loaded::number(numbers, Section::LEAD, h);
-        return moves_weight(x, start, moves) == loaded::number(x, 0, lead);
+        return moves_total(x, start, moves) == loaded::number(x, 0, lead);
     }
     true
 }

@@ -17,6 +17,7 @@ mod format;
 mod order;
 mod weights;
 
+pub use fits::moves_total;
 pub use format::weight_count;
 pub use order::put_weights;
 

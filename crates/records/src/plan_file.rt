@@ -28,6 +28,9 @@ impl PlanHeader {
 
     pub const DENOMINATOR_BITS: usize = 12;
 
+    // The largest D.
+    pub const LARGEST: u64 = 4095;
+
     pub const ZERO_BITS: usize = 4;
 
     pub const BITS: usize = PlanHeader::EDITION_BITS

@@ -21,7 +21,7 @@ use Rattle.loaded.specs.Sets.{firstSequence, leadBy}
 use Rattle.loaded.specs.Loaded.{NumbersLoaded}
 use Rattle.loaded.specs.declared.Counts.{Counts}
 use Rattle.responses.specs.Worths.{worthAt, WorthsHeld, RightFrom, right-from, SequenceStored}
-use Rattle.responses.proofs.Sides.{few-sequences}
+use Rattle.loaded.proofs.Sides.{few-sequences}
 use Rattle.responses.proofs.SequencesAt.{at-sequence, at-empty, move-number, lead-number, leads}
 
 module _ {g : Game} {p : Player} {y : RealizationPlan} {worths : List ℤ} where

@@ -7,5 +7,4 @@ pub mod MoveLaws
 pub mod Passing
 pub mod SequencesAt
 pub mod SetReadings
-pub mod Sides
 pub mod Walks

@@ -8,7 +8,7 @@ use borrow.Author.Tests.{lt-ltb, le-ltb}
 use lib.Dec.{eqb}
 use lib.ListN.{length, getD, drop, drop-of-length-le}
 use lib.Seq.{drop-cons}
-use Rattle.trials.specs.Checks.{takenIn, checkFrom}
+use Rattle.trials.specs.Checks.{takenIn, checkFrom, bytesFrom}
 use Rattle.trials.specs.Lists.{before, placeOf, nextLine}
 
 -- what is left from a place on: the byte there, and what is left from the next on
@@ -51,3 +51,13 @@ check-end check xs at l = rw (drop-of-length-le xs l)
 pub check-more : (check : ℕ) (xs : List ℕ) (at : ℕ) → at < length xs → checkFrom check (drop at xs) ≡ checkFrom (takenIn (takenIn check 0) (getD xs at 0)) (drop (at + 1) xs)
 unfolding checkFrom
 check-more check xs at l = rw (left xs at l)
+
+-- no byte is left to be taken in
+pub bytes-end : (check : ℕ) (xs : List ℕ) (at : ℕ) → length xs ≤ at → bytesFrom check (drop at xs) ≡ check
+unfolding bytesFrom
+bytes-end check xs at l = rw (drop-of-length-le xs l)
+
+-- the byte at the place is taken in
+pub bytes-more : (check : ℕ) (xs : List ℕ) (at : ℕ) → at < length xs → bytesFrom check (drop at xs) ≡ bytesFrom (takenIn check (getD xs at 0)) (drop (at + 1) xs)
+unfolding bytesFrom
+bytes-more check xs at l = rw (left xs at l)

@@ -1,4 +1,4 @@
--- The check that stands for a list of numbers.
+-- The check that stands for a list of numbers or of bytes.
 use Prim.Native.Nat.{ℕ, _+_, _*_, _%_}
 use mathlib.Core.List.{List, [], _∷_}
 
@@ -14,3 +14,12 @@ checkFrom check (x ∷ xs) = checkFrom (takenIn (takenIn check 0) x) xs
 -- the check of a list
 unfoldable pub checkOf : List ℕ → ℕ
 checkOf xs = checkFrom 0 xs
+
+-- a check after the bytes of a list, which have no sign
+unfoldable pub bytesFrom : (check : ℕ) → List ℕ → ℕ
+bytesFrom check [] = check
+bytesFrom check (x ∷ xs) = bytesFrom (takenIn check x) xs
+
+-- the check of bytes
+unfoldable pub checkOfBytes : List ℕ → ℕ
+checkOfBytes xs = bytesFrom 0 xs

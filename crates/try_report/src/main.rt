@@ -9,29 +9,13 @@ use trials::lists::line_at;
 use trials::lists::name_of;
 use trials::lists::next_line;
 use trials::load;
-use trials::refusals::taken_in;
+use trials::refusals::check_of_bytes;
 use trials::say;
 use trials::say_heading;
 use trials::say_number;
 
 // One more than the bytes of the longest text.
 const MOST: usize = report::MOST + 1;
-
-// A check after one more byte.
-fn byte_taken_in(check: u64, byte: u8) -> u64 {
-    taken_in(check, byte as u64)
-}
-
-// A check of a buffer: each byte is taken in.
-fn check_of(buffer: &[u8]) -> u64 {
-    let mut check = 0;
-    let mut at = 0;
-    while at < buffer.len() {
-        check = byte_taken_in(check, buffer[at]);
-        at += 1;
-    }
-    check
-}
 
 // As many bytes as were written, and none past the buffer's end.
 fn say_written(buffer: &[u8], size: usize) {
@@ -89,7 +73,7 @@ fn say_answer(answer: WriteAnswer) {
 fn try_buffer(game: &[u8], plan: &[u8], buffer: &mut [u8]) {
     say_number(b"room ", buffer.len() as u64);
     say_answer(entry::report(game, plan, buffer));
-    say_number(b" check ", check_of(buffer));
+    say_number(b" check ", check_of_bytes(buffer));
     say(b"\n");
 }
 

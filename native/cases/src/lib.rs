@@ -9,6 +9,7 @@ pub mod plan;
 pub mod program;
 pub mod report;
 pub mod responses;
+pub mod sheets;
 pub mod verdict;
 pub mod writers;
 
@@ -28,6 +29,7 @@ pub fn programs() -> Result<Vec<Program>, Refusal> {
         form::try_form()?,
         verdict::try_verdict()?,
         report::try_report()?,
+        sheets::try_sheets()?,
         responses::time_responses()?,
     ])
 }

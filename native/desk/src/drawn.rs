@@ -1,4 +1,5 @@
-//! Pairs to run a program on: at and near equilibria, arbitrary ones, and damaged ones.
+//! Pairs to run a program on: at and near equilibria, arbitrary ones, and damaged ones. Each has
+//! a play sheet of the game.
 
 use crate::samples::Pair;
 use crate::Refusal;
@@ -8,11 +9,13 @@ use generator::games::random_game;
 use generator::near::pairs_near;
 use generator::plans::{random_plan, random_pure_plan};
 use generator::refused_plans::misfits;
+use generator::refused_sheets::{beyond_the_limit, without_odds, wrong_fillings, wrong_lengths};
 use generator::rng::Rng;
 use generator::shape::{random_count, Shape};
+use generator::sheets::{random_sheet, sheet_of};
 use generator::slow::{slow_game, Slow};
 use generator::tables::{GameTables, PlanWeights};
-use reference::game::{check_game, Game};
+use reference::game::{check_game, Game, Player};
 use reference::limits::MOST_ENTRIES;
 use reference::plan::{check_plan, Plan};
 
@@ -31,9 +34,11 @@ pub fn draw(rng: &mut Rng) -> Result<Vec<Pair>, Refusal> {
     let mut pairs = Vec::new();
     for plan in plans {
         let plan = plan.bytes()?;
+        let sheet = draw_sheet(rng, &check_plan(&accepted, &plan)?)?;
         pairs.push(Pair {
             game: game.clone(),
             plan,
+            sheet,
         });
     }
     if let Some(pair) = rng.pick(&pairs) {
@@ -67,6 +72,27 @@ fn any_plans(rng: &mut Rng, game: &Game) -> Vec<PlanWeights> {
     ]
 }
 
+/// A sheet of a plan's probabilities, one made for a refusal out of it, or any.
+fn draw_sheet(rng: &mut Rng, plan: &Plan) -> Result<Vec<u8>, Refusal> {
+    let game = plan.game();
+    let sheet = sheet_of(rng, plan);
+    let file = sheet.bytes(game)?;
+    let player = Player::BOTH[rng.below(2)];
+    let changed = match rng.below(8) {
+        0 => without_odds(rng, game, &sheet, player),
+        1 => beyond_the_limit(rng, game, &sheet, player),
+        2 => Some(random_sheet(rng, game)),
+        3 => return Ok(random_damage(rng, &file)),
+        4 => {
+            let wrong = [wrong_lengths(game, &file), wrong_fillings(game, &file)];
+            let wrong = rng.pick(&wrong.concat()).cloned();
+            return Ok(wrong.unwrap_or(file));
+        }
+        _ => None,
+    };
+    changed.map_or(Ok(file), |changed| changed.bytes(game))
+}
+
 /// Two pairs made for a refusal each, a plan that does not fit, and files damaged at random.
 fn damaged(rng: &mut Rng, pair: &Pair, plan: &Plan) -> Vec<Pair> {
     let mut games = vec![random_damage(rng, &pair.game)];
@@ -82,10 +108,12 @@ fn damaged(rng: &mut Rng, pair: &Pair, plan: &Plan) -> Vec<Pair> {
     let of_game = |game| Pair {
         game,
         plan: pair.plan.clone(),
+        sheet: pair.sheet.clone(),
     };
     let of_plan = |plan| Pair {
         game: pair.game.clone(),
         plan,
+        sheet: pair.sheet.clone(),
     };
     let games = games.into_iter().map(of_game);
     games.chain(plans.into_iter().map(of_plan)).collect()

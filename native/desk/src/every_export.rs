@@ -12,15 +12,18 @@ use generator::shape::Shape;
 use generator::tables::GameTables;
 use reference::game::{check_game, Player};
 use reference::limits::MOST_ENTRIES;
+use reference::plan::check_plan;
+use reference::sheet::{Sheet, WIDTH};
 use std::hint::black_box;
 
 /// As long as the longest text, and longer than any file.
 const MOST_BYTES: usize = 69_794;
 
-/// A game and a plan as files, with what their writers take.
+/// A game, a plan and its play sheet as files, with what their writers take.
 pub struct Files {
     game: Vec<u8>,
     plan: Vec<u8>,
+    sheet: Vec<u8>,
     root_weight: u64,
     fields: Buffers,
     denominators: [u64; 2],
@@ -31,10 +34,14 @@ impl Files {
     /// A game with an even plan.
     pub fn of(tables: &GameTables) -> Result<Files, Refusal> {
         let game = tables.bytes()?;
+        let accepted = check_game(&game)?;
         let denominators = [4_095, 4_094];
-        let pair = even_plan(&check_game(&game)?, denominators);
+        let pair = even_plan(&accepted, denominators);
+        let plan = pair.bytes()?;
+        let sheet = Sheet::of_plan(&check_plan(&accepted, &plan)?);
         Ok(Files {
-            plan: pair.bytes()?,
+            plan,
+            sheet: sheet.bytes(WIDTH),
             root_weight: tables.root_weight,
             fields: Buffers::of(&tables.fields),
             denominators,
@@ -65,7 +72,7 @@ pub fn deepest_and_largest() -> Result<Vec<Files>, Refusal> {
 /// A name, and the call, which must take the files.
 pub type Named = (&'static str, fn(&Files) -> Result<(), Refusal>);
 
-pub const EXPORTS: [Named; 10] = [
+pub const EXPORTS: [Named; 12] = [
     ("desk_check_game", |files| {
         let _ = black_box(crate::check_game(&files.game)?);
         Ok(())
@@ -106,5 +113,13 @@ pub const EXPORTS: [Named; 10] = [
         let [d1, d2] = files.denominators;
         let mut file = Output::with_room(MOST_BYTES);
         crate::write_plan(d1, d2, &files.weights, black_box(&mut file))
+    }),
+    ("desk_plan_from_sheet", |files| {
+        let mut file = Output::with_room(MOST_BYTES);
+        crate::sheet::plan_from_sheet(&files.game, &files.sheet, black_box(&mut file))
+    }),
+    ("desk_sheet_from_plan", |files| {
+        let mut file = Output::with_room(MOST_BYTES);
+        crate::sheet::sheet_from_plan(&files.game, &files.plan, black_box(&mut file))
     }),
 ];

@@ -119,6 +119,28 @@ extern "C" {
     /// always enough.
     pub fn desk_refusal_line(number: u64, out: *mut u8, out_len: usize, size: *mut u64) -> u64;
 
+    /// Makes the plan of a play sheet, and gives the length of its file.
+    pub fn desk_plan_from_sheet(
+        game: *const u8,
+        game_len: usize,
+        sheet: *const u8,
+        sheet_len: usize,
+        out: *mut u8,
+        out_len: usize,
+        size: *mut u64,
+    ) -> u64;
+
+    /// Makes the play sheet of a plan, and gives its length.
+    pub fn desk_sheet_from_plan(
+        game: *const u8,
+        game_len: usize,
+        plan: *const u8,
+        plan_len: usize,
+        out: *mut u8,
+        out_len: usize,
+        size: *mut u64,
+    ) -> u64;
+
     /// Writes a plan file, from D1, D2 and all weights as one list in file order, and gives its
     /// length.
     pub fn desk_write_plan(

@@ -11,6 +11,7 @@ pub mod plain;
 pub mod program;
 pub mod report;
 pub mod samples;
+pub mod sheet;
 pub mod timing;
 pub mod variants;
 pub mod verdict;
@@ -19,7 +20,7 @@ mod exports;
 
 use reference::writer::Fields;
 
-/// A refusal of document 01, 1 to 18.
+/// A refusal of document 01 or 02, 1 to 21.
 pub type Refusal = u8;
 
 /// N, H and D0 of an accepted game.
@@ -99,7 +100,7 @@ fn answer(number: u64) -> Result<(), Refusal> {
     match u8::try_from(number) {
         Ok(0) => Ok(()),
         Ok(refusal) => Err(refusal),
-        Err(_) => unreachable!("a refusal is at most 18"),
+        Err(_) => unreachable!("a refusal is at most 21"),
     }
 }
 

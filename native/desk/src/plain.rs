@@ -6,6 +6,7 @@ pub mod expert;
 pub mod form;
 pub mod plan;
 pub mod responses;
+pub mod sheet;
 pub mod table;
 pub mod verdict;
 pub mod write;

@@ -1,14 +1,16 @@
-//! Games with plans to measure on: each kind at full size and at half of it, so that the
-//! times show what twice the game costs, small ones by the thousand, and slow ones.
+//! Games with plans and play sheets to measure on: each kind at full size and at half of it, so
+//! that the times show what twice the game costs, small ones by the thousand, and slow ones.
 
 use crate::Refusal;
 use generator::games::random_game;
 use generator::plans::random_plan;
 use generator::rng::Rng;
 use generator::shape::{random_count, Growth, Payoffs, Shape};
+use generator::sheets::sheet_of;
 use generator::slow::{slow_games_of_full_size, Named};
 use generator::tables::GameTables;
 use reference::limits::MOST_ENTRIES;
+use reference::plan::check_plan;
 
 const HALF: usize = 2_047;
 
@@ -18,16 +20,20 @@ const FILES: usize = 6;
 pub struct Pair {
     pub game: Vec<u8>,
     pub plan: Vec<u8>,
+    pub sheet: Vec<u8>,
 }
 
 impl Pair {
-    /// A game with a random plan.
+    /// A game with a random plan and a sheet of its probabilities. The sheet is drawn apart, so
+    /// that games and plans do not depend on it.
     pub fn draw(rng: &mut Rng, tables: &GameTables) -> Result<Pair, Refusal> {
         let game = tables.bytes()?;
         let accepted = reference::game::check_game(&game)?;
         let denominators = [random_count(rng), random_count(rng)];
         let plan = random_plan(rng, &accepted, denominators).bytes()?;
-        Ok(Pair { game, plan })
+        let sheet = sheet_of(&mut rng.clone(), &check_plan(&accepted, &plan)?);
+        let sheet = sheet.bytes(&accepted)?;
+        Ok(Pair { game, plan, sheet })
     }
 }
 

@@ -4,7 +4,7 @@ use crate::form::{TableBuffers, Values};
 use crate::plain::expert::{self, Scratch};
 use crate::plain::{self, BitLoop, Reader, Word};
 use crate::verdict::VerdictBuffers;
-use crate::{Counts, PlanBuffers, Refusal};
+use crate::{Counts, Output, PlanBuffers, Refusal};
 use std::marker::PhantomData;
 
 type Answer = Result<(), Refusal>;
@@ -16,6 +16,8 @@ pub trait Variant {
     fn payoff_table(&mut self, game: &[u8], out: &mut TableBuffers) -> Answer;
     fn values(&mut self, game: &[u8], plan: &[u8], out: &mut Values) -> Answer;
     fn verdict(&mut self, game: &[u8], plan: &[u8], out: &mut VerdictBuffers) -> Answer;
+    fn plan_from_sheet(&mut self, game: &[u8], sheet: &[u8], out: &mut Output) -> Answer;
+    fn sheet_from_plan(&mut self, game: &[u8], plan: &[u8], out: &mut Output) -> Answer;
 }
 
 /// How many there are.
@@ -63,6 +65,14 @@ impl Variant for Library {
     fn verdict(&mut self, game: &[u8], plan: &[u8], out: &mut VerdictBuffers) -> Answer {
         crate::verdict::verdict(game, plan, out)
     }
+
+    fn plan_from_sheet(&mut self, game: &[u8], sheet: &[u8], out: &mut Output) -> Answer {
+        crate::sheet::plan_from_sheet(game, sheet, out)
+    }
+
+    fn sheet_from_plan(&mut self, game: &[u8], plan: &[u8], out: &mut Output) -> Answer {
+        crate::sheet::sheet_from_plan(game, plan, out)
+    }
 }
 
 struct SameMethod<R>(PhantomData<R>);
@@ -87,6 +97,14 @@ impl<R: Reader> Variant for SameMethod<R> {
     fn verdict(&mut self, game: &[u8], plan: &[u8], out: &mut VerdictBuffers) -> Answer {
         plain::verdict::verdict::<R>(game, plan, out)
     }
+
+    fn plan_from_sheet(&mut self, game: &[u8], sheet: &[u8], out: &mut Output) -> Answer {
+        plain::sheet::plan_from_sheet::<R>(game, sheet, out)
+    }
+
+    fn sheet_from_plan(&mut self, game: &[u8], plan: &[u8], out: &mut Output) -> Answer {
+        plain::sheet::sheet_from_plan::<R>(game, plan, out)
+    }
 }
 
 struct Expert(Box<Scratch>);
@@ -110,5 +128,13 @@ impl Variant for Expert {
 
     fn verdict(&mut self, game: &[u8], plan: &[u8], out: &mut VerdictBuffers) -> Answer {
         expert::verdict(game, plan, &mut self.0, out)
+    }
+
+    fn plan_from_sheet(&mut self, game: &[u8], sheet: &[u8], out: &mut Output) -> Answer {
+        expert::plan_from_sheet(game, sheet, &mut self.0, out)
+    }
+
+    fn sheet_from_plan(&mut self, game: &[u8], plan: &[u8], out: &mut Output) -> Answer {
+        expert::sheet_from_plan(game, plan, &mut self.0, out)
     }
 }

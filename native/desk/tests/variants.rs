@@ -6,7 +6,7 @@ use desk::form::{TableBuffers, Values};
 use desk::samples::Pair;
 use desk::variants::{self, Variant, COUNT, NAMES};
 use desk::verdict::VerdictBuffers;
-use desk::{PlanBuffers, Refusal};
+use desk::{Output, PlanBuffers, Refusal};
 use generator::rng::Rng;
 use std::fmt::Debug;
 
@@ -42,7 +42,7 @@ fn untouched(room: usize) -> (PlanBuffers, TableBuffers, VerdictBuffers) {
 }
 
 /// Compares every call on a pair; the refusal of the verdict with room enough, or 0.
-fn compare_pair(variants: &mut Variants, Pair { game, plan }: &Pair) -> usize {
+fn compare_pair(variants: &mut Variants, Pair { game, plan, .. }: &Pair) -> usize {
     let counts = variants.each_mut().map(|variant| variant.check_game(game));
     assert_eq!(counts, [counts[0]; COUNT]);
     let untouched_values = Values {
@@ -71,16 +71,34 @@ fn compare_pair(variants: &mut Variants, Pair { game, plan }: &Pair) -> usize {
     valued.err().unwrap_or(0).into()
 }
 
+/// Compares both calls of play sheets; the refusal of the sheet with room enough, or 0.
+fn compare_sheets(variants: &mut Variants, pair: &Pair) -> usize {
+    let [answer, _] = ROOMS.map(|room| {
+        let out = Output::with_room(2 * room);
+        let _ = compare(variants, &out, |variant, out| {
+            variant.sheet_from_plan(&pair.game, &pair.plan, out)
+        });
+        compare(variants, &out, |variant, out| {
+            variant.plan_from_sheet(&pair.game, &pair.sheet, out)
+        })
+    });
+    answer.err().unwrap_or(0).into()
+}
+
 #[test]
 fn variants_agree_on_drawn_pairs() {
     let mut rng = Rng::new(99);
     let mut variants = variants::all();
     let mut met = [0; 17];
+    let mut met_sheets = [0; 22];
     while met.iter().sum::<usize>() < PAIRS {
         for pair in draw(&mut rng).unwrap() {
             met[compare_pair(&mut variants, &pair)] += 1;
+            met_sheets[compare_sheets(&mut variants, &pair)] += 1;
         }
     }
     assert!(met.iter().all(|&count| count > 5), "{met:?}");
     assert!(met[1..].iter().sum::<usize>() > PAIRS / 3, "{met:?}");
+    let of_sheets = [0, 19, 20, 21].map(|refusal: usize| met_sheets[refusal]);
+    assert!(of_sheets.iter().all(|&count| count > 20), "{met_sheets:?}");
 }

@@ -3,8 +3,10 @@
 
 use generator::named::{plan_f, plan_m, plan_q, study_game};
 use generator::near::averaged_best_responses;
-use generator::poker::{kuhn, kuhn_equilibrium, kuhn_with_every_call, kuhn_without_bluffs, leduc};
-use generator::tables::{GameTables, PlanWeights};
+use generator::poker::{
+    kuhn, kuhn_equilibrium, kuhn_odds, kuhn_with_every_call, kuhn_without_bluffs, leduc,
+};
+use generator::tables::{GameTables, PlanWeights, SheetOdds};
 use reference::game::check_game;
 use reference::report::report;
 use reference::Refusal;
@@ -18,6 +20,8 @@ pub struct Example {
     pub name: &'static str,
     pub game: Vec<u8>,
     pub plan: Vec<u8>,
+    /// The plan as a play sheet, where there is one.
+    pub sheet: Option<Vec<u8>>,
 }
 
 impl Example {
@@ -26,6 +30,17 @@ impl Example {
             name,
             game: game.bytes()?,
             plan: plan.bytes()?,
+            sheet: None,
+        })
+    }
+
+    /// The same with a sheet of these odds in plan order.
+    fn with_odds(self, odds: &[u64]) -> Result<Self, Refusal> {
+        let game = check_game(&self.game)?;
+        let sheet = SheetOdds::in_plan_order(&game, odds).bytes(&game)?;
+        Ok(Example {
+            sheet: Some(sheet),
+            ..self
         })
     }
 
@@ -39,12 +54,14 @@ impl Example {
     }
 
     /// Its files by name.
-    pub fn files(&self) -> [(&'static str, Vec<u8>); 3] {
-        [
+    pub fn files(&self) -> Vec<(&'static str, Vec<u8>)> {
+        let mut files = vec![
             ("game.bin", self.game.clone()),
             ("plan.bin", self.plan.clone()),
             ("stdout", self.printed().into_bytes()),
-        ]
+        ];
+        files.extend(self.sheet.clone().map(|sheet| ("sheet.bin", sheet)));
+        files
     }
 }
 
@@ -61,7 +78,7 @@ pub fn all() -> Result<Vec<Example>, Refusal> {
         Example::new("study-m", &study, &plan_m())?,
         Example::new("study-f", &study, &plan_f())?,
         Example::new("study-misfit", &study, &misfit())?,
-        Example::new("kuhn-equilibrium", &kuhn, &kuhn_equilibrium(2, 1))?,
+        Example::new("kuhn-equilibrium", &kuhn, &kuhn_equilibrium(2, 1))?.with_odds(&kuhn_odds())?,
         Example::new("kuhn-without-bluffs", &kuhn, &kuhn_without_bluffs())?,
         Example::new("kuhn-every-call", &kuhn, &kuhn_with_every_call())?,
         Example::new("leduc-averaged", &leduc, &averaged)?,

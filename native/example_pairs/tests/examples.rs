@@ -4,7 +4,9 @@ use example_pairs::{all, root, Example};
 use reference::brute::earnings;
 use reference::form::{best_response, value_count};
 use reference::game::{check_game, Game, Kind, Player};
+use reference::limits::LARGEST;
 use reference::plan::{check_plan, Plan};
+use reference::sheet::{check_sheet, is_over_smallest, plan_from_sheet, sheet_from_plan, WIDTH};
 use reference::verdict::{verdict, Verdict};
 use std::collections::BTreeSet;
 use std::fs;
@@ -120,6 +122,41 @@ fn kuhn_poker_is_worth_exactly_minus_1_18th_to_player_1() {
             assert_eq!(best * own, value_count(plan, player));
         }
     });
+}
+
+/// The sheet gives the plan and the plan the sheet, bit for bit, since D1 and D2 are the smallest;
+/// and the pair is accepted.
+#[test]
+fn the_sheet_of_kuhn_poker_is_its_plan() {
+    let [game, plan, sheet] =
+        ["game.bin", "plan.bin", "sheet.bin"].map(|file| committed("kuhn-equilibrium", file));
+    assert_eq!(sheet.len(), 36);
+    assert_eq!(
+        plan_from_sheet(&game, &sheet, WIDTH, LARGEST),
+        Ok(plan.clone())
+    );
+    assert_eq!(sheet_from_plan(&game, &plan, WIDTH), Ok(sheet));
+    judge("kuhn-equilibrium", |plan| {
+        for player in Player::BOTH {
+            assert!(is_over_smallest(plan, player));
+        }
+        assert_eq!(verdict(plan), Verdict::Accepted);
+    });
+}
+
+/// The page's table of odds, a card a row: player 1's two sets, then player 2's.
+#[test]
+fn the_page_shows_the_odds_of_the_sheet() {
+    let page = fs::read_to_string(root().join("README.md")).unwrap();
+    let game = check_game(&committed("kuhn-equilibrium", "game.bin")).unwrap();
+    let sheet = committed("kuhn-equilibrium", "sheet.bin");
+    let sheet = check_sheet(&game, &sheet, WIDTH).unwrap();
+    for (card, name) in ["J", "Q", "K"].iter().enumerate() {
+        let sets = [2 * card, 2 * card + 1, 6 + 2 * card, 7 + 2 * card];
+        let odds = sets.map(|set| format!("{} : {}", sheet.odds()[set][0], sheet.odds()[set][1]));
+        let row = format!("\n| {name} | {} |\n", odds.join(" | "));
+        assert!(page.contains(&row), "{row}");
+    }
 }
 
 /// Document 004, table 1: chance nodes, leaves, decisions of each player, sets and sequences

@@ -1,5 +1,5 @@
-//! Games, plans and damaged files to try a reader and a verdict with. All are
-//! drawn from a seeded generator, so each run gives the same ones.
+//! Games, plans, play sheets and damaged files to try a reader and a verdict
+//! with. All are drawn from a seeded generator, so each run gives the same ones.
 
 pub mod aim;
 pub mod damage;
@@ -12,8 +12,10 @@ pub mod near;
 pub mod plans;
 pub mod poker;
 pub mod refused_plans;
+pub mod refused_sheets;
 pub mod rng;
 pub mod shape;
+pub mod sheets;
 pub mod slow;
 pub mod tables;
 

@@ -1,4 +1,4 @@
-//! The games and plans that document 01 names.
+//! The games and plans that document 01 names, and games for play sheets.
 
 use crate::tables::{GameTables, Place, PlanWeights};
 use reference::game::Player;
@@ -112,5 +112,33 @@ pub fn wide_chance(moves: u64) -> GameTables {
     for number in 0..moves {
         tables.add_leaf(Place::new(0, number, 1), [number as i64, 0]);
     }
+    tables
+}
+
+/// Player 1 moves in set 1, and after its move 0 in set 0, which so follows a set of larger
+/// number.
+pub fn backward() -> GameTables {
+    let mut tables = GameTables::new(1);
+    let late = tables.add_set(Player::One, 2);
+    let early = tables.add_set(Player::One, 2);
+    let root = tables.add_decision(tables.root(), early);
+    let next = tables.add_decision(Place::new(root, 0, 1), late);
+    tables.add_leaf(Place::new(root, 1, 1), [0, 0]);
+    tables.add_leaf(Place::new(next, 0, 1), [1, -1]);
+    tables.add_leaf(Place::new(next, 1, 1), [-1, 1]);
+    tables
+}
+
+/// So many sets of a player in a row, each of two moves: move 0 leads to a leaf, move 1 on.
+pub fn row_of_sets(player: Player, sets: u64) -> GameTables {
+    let mut tables = GameTables::new(1);
+    let mut place = tables.root();
+    for _ in 0..sets {
+        let set = tables.add_set(player, 2);
+        let node = tables.add_decision(place, set);
+        tables.add_leaf(Place::new(node, 0, 1), [-1, 1]);
+        place = Place::new(node, 1, 1);
+    }
+    tables.add_leaf(place, [0, 0]);
     tables
 }

@@ -1,8 +1,10 @@
 //! Plan pairs that fit a game.
 
 use crate::rng::Rng;
+use crate::shape::random_count;
 use crate::tables::PlanWeights;
 use reference::game::{Game, Move, Player};
+use reference::limits::LARGEST;
 use std::collections::BTreeMap;
 
 /// A random plan pair with the given D1 and D2.
@@ -14,6 +16,13 @@ pub fn random_plan(rng: &mut Rng, game: &Game, denominators: [u64; 2]) -> PlanWe
         })
     });
     PlanWeights { weights }
+}
+
+/// A random plan pair whose D and weights are multiples of some number, player by player.
+pub fn random_multiple_plan(rng: &mut Rng, game: &Game) -> PlanWeights {
+    let denominators = [random_count(rng), random_count(rng)];
+    let factors = denominators.map(|denominator| rng.between(1, LARGEST / denominator));
+    random_plan(rng, game, denominators).scaled(factors)
 }
 
 /// A random pair of pure strategies, with D1 = D2 = 1.

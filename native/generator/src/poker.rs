@@ -58,6 +58,13 @@ pub fn kuhn_equilibrium(thirds: u64, bluffs: u64) -> PlanWeights {
     }
 }
 
+/// The odds of `kuhn_equilibrium(2, 1)` in plan order, each set's in lowest terms.
+pub fn kuhn_odds() -> Vec<u64> {
+    let one = [5, 1, 1, 0, 1, 0, 1, 1, 1, 1, 0, 1];
+    let two = [2, 1, 1, 0, 1, 0, 2, 1, 0, 1, 0, 1];
+    [one, two].concat()
+}
+
 /// The equilibrium without bluffs, but player 1 always bets with the highest card: his bet says
 /// what he holds.
 pub fn kuhn_without_bluffs() -> PlanWeights {

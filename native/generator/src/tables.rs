@@ -1,7 +1,9 @@
-//! A game and a plan pair in the making, as the writers take them.
+//! A game, a plan pair and a play sheet in the making, as the writers take them.
 
+use reference::bits::fits;
 use reference::game::{Game, Player};
 use reference::plan::Plan;
+use reference::sheet::{sheet_bytes, WIDTH};
 use reference::writer::{fields_of, write_game, write_plan, Fields};
 use reference::Refusal;
 
@@ -134,5 +136,45 @@ impl PlanWeights {
             }
         }
         PlanWeights { weights }
+    }
+}
+
+/// Per set the odds of its moves.
+#[derive(Clone, Debug, PartialEq, Eq)]
+pub struct SheetOdds {
+    pub by_set: Vec<Vec<u64>>,
+}
+
+impl SheetOdds {
+    /// The odds from one list in plan order; moves past its end have odds 0.
+    pub fn in_plan_order(game: &Game, list: &[u64]) -> SheetOdds {
+        let mut rest = list.iter().copied();
+        let mut by_set = vec![Vec::new(); game.sets().len()];
+        for set in Player::BOTH.map(|player| game.sets_of(player)).concat() {
+            let odds = rest.by_ref().chain(std::iter::repeat(0));
+            by_set[set] = odds.take(game.sets()[set].moves).collect();
+        }
+        SheetOdds { by_set }
+    }
+
+    /// The sheet, or 17 where a number does not fit.
+    pub fn bytes(&self, game: &Game) -> Result<Vec<u8>, Refusal> {
+        let mut all = self.by_set.iter().flatten();
+        match all.all(|&odds| fits(odds, WIDTH as u32)) {
+            true => Ok(sheet_bytes(game, &self.by_set, WIDTH)),
+            false => Err(17),
+        }
+    }
+
+    /// The player's sets whose own sequence has no zero odds.
+    pub fn arrived_at(&self, game: &Game, player: Player) -> Vec<usize> {
+        let mut sets = game.sets_of(player);
+        sets.retain(|&set| {
+            let leading = game.leading_sequence(set).unwrap_or_default();
+            leading
+                .iter()
+                .all(|own| self.by_set[own.set][own.number] > 0)
+        });
+        sets
     }
 }

@@ -1,5 +1,6 @@
 //! A plain reading of document 01, kept clear rather than fast: game and plan
-//! files, the sequence form, the verdict and the desk program's text.
+//! files, the sequence form, the verdict and the desk program's text; and of
+//! document 02: play sheets.
 
 pub mod bits;
 pub mod brute;
@@ -8,10 +9,11 @@ pub mod game;
 pub mod limits;
 pub mod plan;
 pub mod report;
+pub mod sheet;
 pub mod verdict;
 pub mod writer;
 
-/// The number of the first rule that sends an input back, 1 to 18.
+/// The number of the first rule that sends an input back, 1 to 21.
 pub type Refusal = u8;
 
 /// Gives `refusal` unless `rule_holds`.

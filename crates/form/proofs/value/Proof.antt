@@ -10,7 +10,7 @@ use Rattle.model.specs.Game.{Game, one, two, playerOf}
 use Rattle.loaded.specs.Loaded.{Loaded}
 use Rattle.loaded.specs.declared.Counts.{Counts}
 use Rattle.responses.proofs.LeafReadings.{few-leaves, leaf-room, chance-room, payoff-room, weight-room}
-use Rattle.responses.proofs.Sides.{payoffs-is}
+use Rattle.loaded.proofs.Sides.{payoffs-is}
 use Rattle.form.specs.Values.{PairWeights}
 use Rattle.form.proofs.PairLaws.{pair-term-is, valueTo, value-none, value-more, value-fits, value-all}
 use Rattle.form.proofs.value.Statement.{statement}

@@ -7,13 +7,15 @@ use Rattle.loaded.specs.Sections.{numbersRoom, payoffsRoom}
 use Rattle.model.specs.Call.{given}
 use Rattle.model.specs.Game.{gameOf}
 use Rattle.model.specs.calls.OwnSequence.{call}
+use Rattle.loaded.proofs.Sides.{sets-counted}
+use Rattle.game.proofs.Loads.{GameOpened, game-opened}
 use Rattle.lookups.proofs.Asked.{in-game, game-refused, number-missing, number-found}
-use Rattle.lookups.proofs.Answers.{GameLoaded, game-loaded, load-refuses, sequence-is-read}
+use Rattle.lookups.proofs.Answers.{load-refuses, sequence-is-read}
 use Rattle.lookups.proofs.own_sequence.Statement.{statement}
 use Rattle.lookups.proofs.own_sequence.Tie as tie
 
-was-loaded : (c : tie.After-known-told) → GameLoaded (c .before .before .before .before .before .before .before .before .before .args .game .now) (c .before .answer .given .0 .0 .sets) (c .before .before .before .before .before .load .last .1 .0)
-was-loaded c = game-loaded _ (c .before .before .before .before .before .load .ensures) (c .before .answer .given .1)
+was-loaded : (c : tie.After-known-told) → GameOpened (c .before .before .before .before .before .before .before .before .before .args .game .now) (c .before .answer .given .0 .0) (c .before .before .before .before .before .load .last .1 .0)
+was-loaded c = game-opened _ (c .before .before .before .before .before .load .ensures) (c .before .answer .given .1)
 
 refused : tie.Need-returns
 unfolding call
@@ -23,7 +25,7 @@ missing : tie.Need-returns-2
 unfolding call
 missing c =
     let o = was-loaded (c .before .before .before .before) in
-    number-missing _ _ _ _ (o .none) (o .sets-are) (c .before .before .before .in-game .ensures) (c .before .enum-told3 .given .1) (c .number .ensures)
+    number-missing _ _ _ _ (o .none) (sets-counted _ (o .counts-are)) (c .before .before .before .in-game .ensures) (c .before .enum-told3 .given .1) (c .number .ensures)
 
 -- the number is that of a set
 in-sets : (c : tie.After-index) → c .index .result < gameOf (c .before .before .before .before .before .before .before .before .before .before .before .before .before .before .args .game .now) .sets
@@ -31,7 +33,7 @@ in-sets c =
     let o = was-loaded (c .before .before .before .before .before) in
     let n = c .before .before .before .before .before .before .before .before .before .before .before .before .before .before .args .number in
     let k = c .before .before .before .before .before .before .answer .given .0 .0 .sets in
-    omega (arith, in-game n k (c .before .before .before .before .in-game .ensures) (c .before .before .enum-told2 .given .1), c .index .ensures, o .sets-are)
+    omega (arith, in-game n k (c .before .before .before .before .in-game .ensures) (c .before .before .enum-told2 .given .1), c .index .ensures, sets-counted _ (o .counts-are))
 
 own-sequence-requires : tie.Need-own-sequence-requires
 own-sequence-requires c κs =
@@ -43,7 +45,7 @@ unfolding call
 found c =
     let o = was-loaded (c .before .before .before .before .before .before) in
     ap given (sequence-is-read _ (c .own-sequence .ensures _ _ (in-sets (c .before)) (o .in-numbers)) (c .before .index .ensures))
-    ∙ number-found _ _ _ _ (o .none) (o .sets-are) (c .before .before .before .before .before .in-game .ensures) (c .before .before .before .enum-told2 .given .1)
+    ∙ number-found _ _ _ _ (o .none) (sets-counted _ (o .counts-are)) (c .before .before .before .before .before .in-game .ensures) (c .before .before .before .enum-told2 .given .1)
 
 pub own-sequence-spec : {M : Type 1} → statement M
 own-sequence-spec =

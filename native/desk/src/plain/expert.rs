@@ -4,15 +4,17 @@
 //! check fails, plain Rust by the library's method says which is the first that does.
 
 mod leaves;
+mod sheets;
 mod tree;
 mod weights;
 mod worths;
 
-use super::{plan, require, Word};
+use super::{plan, require, sheet, Word};
 use crate::form::{TableBuffers, Values};
 use crate::verdict::VerdictBuffers;
-use crate::{Counts, PlanBuffers, Refusal};
+use crate::{Counts, Output, PlanBuffers, Refusal};
 use leaves::Leaves;
+use sheets::Sheets;
 use tree::{Frame, Tree};
 use weights::Weights;
 use worths::Worths;
@@ -33,6 +35,7 @@ pub struct Scratch {
     weights: Weights,
     worths: Worths,
     leaves: Leaves,
+    sheets: Sheets,
 }
 
 impl Scratch {
@@ -42,6 +45,7 @@ impl Scratch {
             weights: Weights::new(),
             worths: Worths::new(),
             leaves: Leaves::new(),
+            sheets: Sheets::new(),
         })
     }
 
@@ -59,6 +63,13 @@ impl Scratch {
         self.tree.read_sets(&frame)?;
         self.leaves.clear(self.tree.sequences);
         self.tree.read_nodes(&frame, |leaf| self.leaves.take(&leaf))
+    }
+
+    /// Checks 1 to 16 with the weights, or nothing where a check fails.
+    fn read(&mut self, game: &[u8], plan: &[u8]) -> Option<()> {
+        self.check(game)?;
+        self.weights.read(plan, self.tree.sequences)?;
+        self.tree.fits(&self.weights)
     }
 
     /// Checks 1 to 16 with values and worths: D0, or nothing where a check fails.
@@ -88,6 +99,13 @@ fn refusal_of_pair(game: &[u8], plan: &[u8]) -> Refusal {
     answer.expect_err("a check that fails in one way fails in the other")
 }
 
+/// The first refusal of 1 to 13 and 19 to 21; there must be one.
+fn refusal_of_sheet(game: &[u8], given: &[u8]) -> Refusal {
+    let mut out = Output::with_room(2 * ROOM);
+    let answer = sheet::plan_from_sheet::<Word>(game, given, &mut out);
+    answer.expect_err("a check that fails in one way fails in the other")
+}
+
 /// Checks 1 to 13.
 pub fn check_game(game: &[u8], scratch: &mut Scratch) -> Result<Counts, Refusal> {
     let frame = scratch.check(game).ok_or_else(|| refusal_of_game(game))?;
@@ -105,10 +123,7 @@ pub fn plan_fields(
     scratch: &mut Scratch,
     buffers: &mut PlanBuffers,
 ) -> Result<(), Refusal> {
-    let read = scratch.check(game).and_then(|_| {
-        scratch.weights.read(plan, scratch.tree.sequences)?;
-        scratch.tree.fits(&scratch.weights)
-    });
+    let read = scratch.read(game, plan);
     read.ok_or_else(|| refusal_of_pair(game, plan))?;
     let [one, two] = scratch.weights.of_moves(scratch.tree.sequences);
     require(buffers.weights.len() >= one.len() + two.len(), 18)?;
@@ -168,4 +183,39 @@ pub fn payoff_table(
     let gathered = scratch.gather(game);
     gathered.ok_or_else(|| refusal_of_game(game))?;
     scratch.leaves.give_rows(scratch.tree.sequences, buffers)
+}
+
+/// A plan from a sheet: 1 to 13, 19 to 21, then 18.
+pub fn plan_from_sheet(
+    game: &[u8],
+    given: &[u8],
+    scratch: &mut Scratch,
+    out: &mut Output,
+) -> Result<(), Refusal> {
+    let found = scratch.check(game);
+    let found = found.and_then(|_| scratch.sheets.find(&scratch.tree, given));
+    found.ok_or_else(|| refusal_of_sheet(game, given))?;
+    let length = scratch.sheets.put_plan(&scratch.tree, &mut out.bytes);
+    out.length = length.ok_or(18)? as u64;
+    Ok(())
+}
+
+/// A sheet from a plan: 1 to 16, then 18.
+pub fn sheet_from_plan(
+    game: &[u8],
+    plan: &[u8],
+    scratch: &mut Scratch,
+    out: &mut Output,
+) -> Result<(), Refusal> {
+    let read = scratch.read(game, plan);
+    read.ok_or_else(|| refusal_of_pair(game, plan))?;
+    let Scratch {
+        tree,
+        weights,
+        sheets,
+        ..
+    } = scratch;
+    let length = sheets.put_sheet(tree, weights, &mut out.bytes);
+    out.length = length.ok_or(18)? as u64;
+    Ok(())
 }

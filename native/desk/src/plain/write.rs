@@ -84,7 +84,7 @@ fn run_bit(numbers: &[u64], width: usize, at: usize) -> u64 {
 }
 
 /// Puts a run of equal fields from byte `from` on; zero bits fill the last byte.
-fn put_run(out: &mut [u8], from: usize, numbers: &[u64], width: usize) {
+pub(super) fn put_run(out: &mut [u8], from: usize, numbers: &[u64], width: usize) {
     for j in 0..(width * numbers.len()).div_ceil(8) {
         let mut byte = 0;
         for i in 0..8 {
@@ -202,8 +202,13 @@ pub fn write_plan<P: Put>(
     if out.bytes.len() < length {
         return Err(18);
     }
-    P::put(&mut out.bytes, 0, &[(4, 1), (12, d1), (12, d2), (4, 0)]);
-    put_run(&mut out.bytes, 4, weights, 12);
+    put_plan::<P>(d1, d2, weights, &mut out.bytes);
     out.length = length as u64;
     Ok(())
+}
+
+/// The header of a plan file, and the weights after it.
+pub(super) fn put_plan<P: Put>(d1: u64, d2: u64, weights: &[u64], out: &mut [u8]) {
+    P::put(out, 0, &[(4, 1), (12, d1), (12, d2), (4, 0)]);
+    put_run(out, 4, weights, 12);
 }

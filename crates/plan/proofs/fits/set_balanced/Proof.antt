@@ -16,7 +16,7 @@ stands c = weight-places (c .before .before .before .before .before .before .bef
 returns : tie.Need-returns
 returns c g sets l =
     let s = c .before .before .before .before .before .before .before .before .before in
-    balance-is sets (s .args .h) l (s .args .player) (s .pre .known) (c .before .before .before .before .before .before .number .ensures .0) (c .before .before .before .before .before .if1 .taken) (read (c .before .before)) (s .args .x .now) (c .before .moves-weight .ensures) (c .number5 .ensures .0)
+    balance-is sets (s .args .h) l (s .args .player) (s .pre .known) (c .before .before .before .before .before .before .number .ensures .0) (c .before .before .before .before .before .if1 .taken) (read (c .before .before)) (s .args .x .now) (c .before .moves-total .ensures) (c .number5 .ensures .0)
 
 returns-2 : tie.Need-returns-2
 returns-2 c g sets l =

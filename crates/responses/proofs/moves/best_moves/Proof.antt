@@ -9,7 +9,7 @@ use Rattle.model.specs.Plan.{RealizationPlan}
 use Rattle.loaded.specs.declared.Counts.{Counts}
 use Rattle.responses.specs.Worths.{WorthsHeld}
 use Rattle.responses.specs.BestMoves.{ownBestMove}
-use Rattle.responses.proofs.Sides.{sets-counted}
+use Rattle.loaded.proofs.Sides.{sets-counted}
 use Rattle.responses.proofs.moves.best_moves.Statement.{statement}
 use Rattle.responses.proofs.moves.best_moves.Tie as tie
 

@@ -20,7 +20,7 @@ use Rattle.loaded.specs.declared.Counts.{Counts}
 use Rattle.responses.specs.Worths.{HoldsZ}
 use Rattle.responses.proofs.LeafLaws.{leafSum, sum-none, holds-zero}
 use Rattle.responses.proofs.LeafReadings.{few-leaves, leaf-room, chance-room, payoff-room, weight-room, term-is, in-range, turn-fits, turn-held, all-held}
-use Rattle.responses.proofs.Sides.{own-is, opponent-is, payoffs-is, sequences-is, few-sequences}
+use Rattle.loaded.proofs.Sides.{own-is, opponent-is, payoffs-is, sequences-is, few-sequences}
 use Rattle.responses.proofs.sums.sums.Statement.{statement}
 use Rattle.responses.proofs.sums.sums.Tie as tie
 

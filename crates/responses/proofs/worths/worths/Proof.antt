@@ -6,7 +6,7 @@ use mir.Facts.{toZ-ofZ}
 use Rattle.model.specs.Game.{playerOf}
 use Rattle.responses.proofs.Everywhere.{worths-given}
 use Rattle.responses.proofs.SequencesAt.{some-sequence}
-use Rattle.responses.proofs.Sides.{heads-is, sets-counted, few-sequences}
+use Rattle.loaded.proofs.Sides.{heads-is, sets-counted, few-sequences}
 use Rattle.responses.proofs.worths.worths.Statement.{statement}
 use Rattle.responses.proofs.worths.worths.Tie as tie
 

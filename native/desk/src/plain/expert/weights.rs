@@ -63,7 +63,7 @@ impl Weights {
 
 /// Reads weights from number `from` on, two of them from three bytes, but a first and a last one
 /// that share their bytes with others.
-fn read_run(weights: &[u8], from: usize, out: &mut [u16]) {
+pub fn read_run(weights: &[u8], from: usize, out: &mut [u16]) {
     let (odd, rest) = out.split_at_mut(out.len().min(from % 2));
     odd.fill_with(|| weight_at(weights, from));
     let from = from + odd.len();
