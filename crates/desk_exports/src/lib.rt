@@ -15,6 +15,7 @@ ghost use Rattle.model.specs.calls.Values.{pairValues, valuesCall};
 ghost use Rattle.model.specs.calls.Verdict.{numbers, verdictNumbers};
 ghost use Rattle.model.specs.calls.Report.{reportCall};
 ghost use Rattle.model.specs.calls.RefusalLine.{refusalLine};
+ghost use Rattle.model.specs.Plan.{weightWidth, largestDenominator};
 ghost use Rattle.model.specs.PlanChecks.{files};
 ghost use Rattle.model.specs.calls.PlanFromSheet.{sheetFiles, MakesIn, planFromSheet};
 ghost use Rattle.model.specs.calls.SheetFromPlan.{ReturnsIn, sheetFromPlan};
@@ -165,7 +166,7 @@ pub extern "C" fn desk_plan_from_sheet(
     size: &mut u64,
 ) -> u64
     ensures { λ r. ⌜ leaves r (now (size .exit)) (now (out .exit), tt) ≡ exported same (now (size .entry)) (planFromSheet (now (game .entry)) (now (sheet .entry)) (now (out .entry))) ⌝ }
-    ensures { λ r. ⌜ MakesIn 12 4095 (sheetFiles (now (game .entry)) (now (sheet .entry))) (now (out .entry)) (leaves r (now (size .exit)) (now (out .exit), tt)) ⌝ }
+    ensures { λ r. ⌜ MakesIn weightWidth largestDenominator (sheetFiles (now (game .entry)) (now (sheet .entry))) (now (out .entry)) (leaves r (now (size .exit)) (now (out .exit), tt)) ⌝ }
 {
     exported_sheets::plan_from_sheet(game, sheet, out, size)
 }
@@ -179,7 +180,7 @@ pub extern "C" fn desk_sheet_from_plan(
     size: &mut u64,
 ) -> u64
     ensures { λ r. ⌜ leaves r (now (size .exit)) (now (out .exit), tt) ≡ exported same (now (size .entry)) (sheetFromPlan (now (game .entry)) (now (plan .entry)) (now (out .entry))) ⌝ }
-    ensures { λ r. ⌜ ReturnsIn 12 4095 (files (now (game .entry)) (now (plan .entry))) (now (out .entry)) (leaves r (now (size .exit)) (now (out .exit), tt)) ⌝ }
+    ensures { λ r. ⌜ ReturnsIn weightWidth largestDenominator (files (now (game .entry)) (now (plan .entry))) (now (out .entry)) (leaves r (now (size .exit)) (now (out .exit), tt)) ⌝ }
 {
     exported_sheets::sheet_from_plan(game, plan, out, size)
 }

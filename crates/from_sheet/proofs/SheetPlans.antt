@@ -1,7 +1,7 @@
 -- A sheet that is weighed and written: its refusals, and the plan file.
 use Prim.Native.Nat.{ℕ, zero, suc, _+_, _-_, _≤_, _<_}
-use mathlib.Core.Path.{_≡_, refl, sym, ap, _∙_, subst}
-use mathlib.Core.List.{List, [], _∷_, _++_}
+use mathlib.Core.Path.{_≡_, refl, sym, ap, _∙_}
+use mathlib.Core.List.{List, [], _++_}
 use native.Mathlib.Omega.{arith}
 use native.Mathlib.Nat as NatL
 use lib.IntN.{ℤ}
@@ -15,16 +15,16 @@ use Rattle.algebra.proofs.Lists.{length-listTo, listTo-at}
 use Rattle.model.specs.Game.{Game, gameOf, Player, one, two, owns, movesBefore}
 use Rattle.model.specs.Sequences.{extended, leading, moveNumber, sequenceCount}
 use Rattle.model.specs.Demand2.{sequenceAt}
-use Rattle.model.specs.Plan.{weightsBefore, planMoves, weightPlace}
+use Rattle.model.specs.Plan.{largestDenominator, weightsBefore, planMoves, weightPlace}
 use Rattle.model.specs.PlanOrder.{pairWeights, planFileOf}
 use Rattle.model.specs.Sheet.{Odds, smallestD, weightOver, planFrom}
 use Rattle.model.specs.Checks.{gameRefusal, gameRows}
 use Rattle.model.specs.Rows.{Rows, of, refusal}
 use Rattle.model.specs.Rules.{GameRules, PlanFieldsFit}
 use Rattle.model.specs.Writing.{planFields, planBytes}
-use Rattle.model.specs.Call.{refused, Outcome, outcome, run}
+use Rattle.model.specs.Call.{refused, outcome, run}
 use Rattle.model.specs.calls.WritePlan as WritePlan
-use Rattle.model.specs.calls.PlanFromSheet.{SheetFiles, sheetFiles, oddsIn, madePlan, sheetRows, call, GoodSheet, Makes, planFromSheet}
+use Rattle.model.specs.calls.PlanFromSheet.{SheetFiles, oddsIn, madePlan, sheetRows, call, GoodSheet}
 use Rattle.model.proofs.Call.{same-good-run}
 use Rattle.model.proofs.FieldRules.{plan-fields-iff}
 use Rattle.model.proofs.Numbers.{moves-block, number-place}
@@ -33,10 +33,10 @@ use Rattle.model.proofs.PlanOrder.{order-is}
 use Rattle.model.proofs.Rows.{taken-iff}
 use Rattle.model.proofs.Rules.{plan-fields-fit-iff}
 use Rattle.model.proofs.Sequences.{number-empty, number-extended}
-use Rattle.model.proofs.Sheets.{smallest-positive, smallest-serves, weight-none, made-fits}
+use Rattle.model.proofs.Sheets.{smallest-positive, weight-none, made-fits}
 use Rattle.model.proofs.Tree.{empty, after, owner}
 use Rattle.model.proofs.calls.WritePlan.{fit-decided}
-use Rattle.model.proofs.calls.PlanFromSheet.{rows-decided, good-given, good-limit, makes}
+use Rattle.model.proofs.calls.PlanFromSheet.{rows-decided, good-given, good-limit}
 use Rattle.checks.specs.declared.Checked.{Checked}
 use Rattle.checks.specs.declared.Checked.the-variants.{Fine, Broken}
 use Rattle.checks.specs.Checked.{numberOf}
@@ -61,7 +61,7 @@ module _ {g : Game} (R : GameRules g) (odds : Odds) where
   unfolding smallestWeight
   first-weight p =
       ap (weightOver g odds (smallestD g odds p)) (ap (sequenceAt g p) (sym (number-empty g p)) ∙ number-place g p [] empty)
-      ∙ weight-none g odds R p (smallestD g odds p) (smallest-serves g odds R p)
+      ∙ weight-none g odds (smallestD g odds p)
 
   -- and that of a move is the plan's
   move-weight : (p : Player) (h m : ℕ) → h < g .sets → T (owns g p h) → m < g .setMoves h → smallestWeight g odds p (moveNumber g p (h, m)) ≡ planFrom g odds p .moveWeight h m
@@ -72,11 +72,11 @@ module _ {g : Game} (R : GameRules g) (odds : Odds) where
 
   module _ {x y : List ℕ} (H : BothHeld g odds x y) where
     -- the denominators
-    pub first-denominator : item x 0 ≡ smallestD g odds one
+    first-denominator : item x 0 ≡ smallestD g odds one
     unfolding sequenceCount
     first-denominator = H .first .at 0 (omega arith) ∙ first-weight one
 
-    pub second-denominator : item y 0 ≡ smallestD g odds two
+    second-denominator : item y 0 ≡ smallestD g odds two
     unfolding sequenceCount
     second-denominator = H .second .at 0 (omega arith) ∙ first-weight two
 
@@ -92,7 +92,7 @@ module _ {g : Game} (R : GameRules g) (odds : Odds) where
         ∙ move-weight p h m l o v
 
     -- so the list in file order is the plan's
-    pub weights-are : (c : Counts) → c ≡ countsOf g → pairWeights g (planFrom g odds) ≡ inFileOrder c x y
+    weights-are : (c : Counts) → c ≡ countsOf g → pairWeights g (planFrom g odds) ≡ inFileOrder c x y
     unfolding pairWeights inFileOrder planMoves weightPlace weightsBefore
     weights-are c e =
         let n = counted e in
@@ -114,7 +114,7 @@ module _ {g : Game} (R : GameRules g) (odds : Odds) where
             ∙ sym (rw e (getD-append-add first second (movesBefore g two h + m) 0 ∙ b h m l o v))
 
 -- how many weights there are
-pub order-count : (c : Counts) (x y : List ℕ) → length (inFileOrder c x y) ≡ weightsOf c
+order-count : (c : Counts) (x y : List ℕ) → length (inFileOrder c x y) ≡ weightsOf c
 unfolding inFileOrder
 order-count c x y = length-append (listTo (c .sequences1 - 1) (λ i. item x (suc i))) (listTo (c .sequences2 - 1) (λ i. item y (suc i))) ∙ (λ k. length-listTo (c .sequences1 - 1) (λ i. item x (suc i)) k + length-listTo (c .sequences2 - 1) (λ i. item y (suc i)) k)
 
@@ -159,14 +159,14 @@ module _ (width limit : ℕ) (f : SheetFiles) (out : List ℕ) where
         sym (call-refuses (call width limit) (rows-decided width limit .numbered) f (out, tt) (record { is = left .same ∙ told .0 ∙ sym i; some = λ z. told .1 (sym i ∙ z) }))
 
     -- it is weighed, and its plan is written
-    pub plan-written : limit ≤ 4095 → {c : Counts} {x y : List ℕ} → c ≡ countsOf (gameOf (f .game)) → refusal (sheetRows width limit) f ≡ 0 → BothHeld (gameOf (f .game)) (oddsIn width f) x y → WritePlan.writePlan (item x 0) (item y 0) (inFileOrder c x y) out ≡ run (call width limit) f (out, tt)
+    pub plan-written : limit ≤ largestDenominator → {c : Counts} {x y : List ℕ} → c ≡ countsOf (gameOf (f .game)) → refusal (sheetRows width limit) f ≡ 0 → BothHeld (gameOf (f .game)) (oddsIn width f) x y → WritePlan.writePlan (item x 0) (item y 0) (inFileOrder c x y) out ≡ run (call width limit) f (out, tt)
     unfolding call WritePlan.call planFileOf planFrom
     plan-written most {c} {x} {y} counts fine H =
         let g = gameOf (f .game) in
         let odds = oddsIn width f in
         let good : GoodSheet width limit f = taken-iff (rows-decided width limit) f .1 (left .same ∙ fine) in
         let R = good .0 .rules in
-        let small : (p : Player) → smallestD g odds p ≤ 4095 = λ p. NatL.le-trans (good-limit width limit f good p) most in
+        let small : (p : Player) → smallestD g odds p ≤ largestDenominator = λ p. NatL.le-trans (good-limit width limit f good p) most in
         let fit = weights-fit g R (planFrom g odds) (λ p. made-fits g odds R p (good-given width limit f good)) (smallest-positive g odds R) small in
         let d1 = first-denominator R odds H in
         let d2 = second-denominator R odds H in
@@ -183,7 +183,3 @@ fine-none k e f = told checkedAs numberOf itself e f
     itself : (k : ℕ) → numberOf (checkedAs k) ≡ k
     itself zero = refl
     itself (suc k) = refl
-
--- an outcome that is the call's means what that does
-pub sheet-makes : (game sheet out : List ℕ) {o : Outcome (ℕ ∷ []) ℕ} → o ≡ planFromSheet game sheet out → (o ≡ planFromSheet game sheet out) × Makes 12 4095 (sheetFiles game sheet) out o
-sheet-makes game sheet out e = (e, subst (Makes 12 4095 (sheetFiles game sheet) out) (sym e) (makes game sheet out))

@@ -4,6 +4,7 @@ ghost use Prim.Native.Nat.{_≤_, _<_};
 ghost use lib.ListN.{length};
 ghost use Rattle.algebra.specs.Arrays.{item};
 ghost use Rattle.model.specs.Limits.{countLimit};
+ghost use Rattle.model.specs.Plan.{weightWidth, largestDenominator};
 ghost use Rattle.model.specs.Call.{outcome, run};
 ghost use Rattle.model.specs.calls.WritePlan.{writePlan};
 ghost use Rattle.model.specs.calls.PlanFromSheet.{sheetFiles, call, Makes, planFromSheet};
@@ -31,9 +32,9 @@ fn write(counts: Counts, x: &[u16], y: &[u16], out: &mut [u8]) -> WriteAnswer
     plan_writer::write(d1, d2, &weights[..count], out)
 }
 
-// The plan of a sheet of `width` bits a move, over denominators up to a limit.
+// The plan of a sheet of `width` bits a move, over denominators up to a limit that fits a plan file.
 fn make(game: &[u8], sheet: &[u8], width: usize, limit: u64, out: &mut [u8]) -> WriteAnswer
-    requires { ⌜ (width ≤ 16) × (0 < limit) × (limit ≤ 4095) ⌝ }
+    requires { ⌜ (width ≤ 16) × (0 < limit) × (limit ≤ largestDenominator) ⌝ }
     ensures { λ r. ⌜ outcome (writeAnswered r) (now (out .exit), tt) ≡ run (call width limit) (sheetFiles (now (game .entry)) (now (sheet .entry))) (now (out .entry), tt) ⌝ }
 {
     let mut numbers = [0u16; Section::NUMBERS];
@@ -54,7 +55,7 @@ fn make(game: &[u8], sheet: &[u8], width: usize, limit: u64, out: &mut [u8]) -> 
 // Makes the plan of a play sheet: odds of 12 bits, and D up to 4,095.
 pub fn plan_from_sheet(game: &[u8], sheet: &[u8], out: &mut [u8]) -> WriteAnswer
     ensures { λ r. ⌜ outcome (writeAnswered r) (now (out .exit), tt) ≡ planFromSheet (now (game .entry)) (now (sheet .entry)) (now (out .entry)) ⌝ }
-    ensures { λ r. ⌜ Makes 12 4095 (sheetFiles (now (game .entry)) (now (sheet .entry))) (now (out .entry)) (outcome (writeAnswered r) (now (out .exit), tt)) ⌝ }
+    ensures { λ r. ⌜ Makes weightWidth largestDenominator (sheetFiles (now (game .entry)) (now (sheet .entry))) (now (out .entry)) (outcome (writeAnswered r) (now (out .exit), tt)) ⌝ }
 {
     make(
         game,

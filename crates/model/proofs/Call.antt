@@ -96,3 +96,7 @@ gives-front {A = A} c d i out size good room =
       ap (λ (o : Outcome (A ∷ []) ℕ). o .answer) e ∙ ap given size,
       ap (λ (o : Outcome (A ∷ []) ℕ). take (length l) (o .buffers .0)) e ∙ take-append-seam l (drop (length l) out),
     )
+
+-- An outcome that is the call's means what the call's does.
+pub meant : {A : Type 0} (Means : A → Type 0) {o is : A} → o ≡ is → Means is → (o ≡ is) × Means o
+meant Means e m = (e, subst Means (sym e) m)

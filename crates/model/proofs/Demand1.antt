@@ -42,6 +42,6 @@ demand1 = record {
   rewrite-plan = RewritePlan.demand1;
   reread-game = RereadGame.demand1;
   reread-plan = RereadPlan.demand1;
-  plan-from-sheet = PlanFromSheet.demand1 12 4095;
-  sheet-from-plan = SheetFromPlan.demand1 12;
+  plan-from-sheet = PlanFromSheet.demand1;
+  sheet-from-plan = SheetFromPlan.demand1;
 }

@@ -10,7 +10,7 @@ use Rattle.algebra.proofs.Totals.{count-cong, count-term}
 use Rattle.model.specs.Bits.{bit, fields}
 use Rattle.model.specs.Game.{Game, Player, one, two, owns}
 use Rattle.model.specs.Sequences.{Sequence, extended, leading}
-use Rattle.model.specs.Plan.{RealizationPlan, PlanPair, Fits, sequenceWeight, planMoves, weightPlace, weightBit, planPairOf}
+use Rattle.model.specs.Plan.{RealizationPlan, PlanPair, Fits, sequenceWeight, weightWidth, largestDenominator, planMoves, weightPlace, weightBit, planPairOf}
 use Rattle.model.specs.PlanChecks.{planLength}
 use Rattle.model.specs.PlanOrder.{pairWeights, planFileOf}
 use Rattle.model.specs.Writing.{planBytes}
@@ -32,20 +32,20 @@ weight-most g R p x F =
 -- A plan file as its fields are written.
 module _ (d1 d2 : ℕ) (weights : List ℕ) (fit : PlanFitting d1 d2 weights) where
   -- its fields
-  written-fields : Holds (planBytes d1 d2 weights) 0 0 (headerCells d1 d2 weights) × (fields (planBytes d1 d2 weights) 32 12 (length weights) ≡ weights)
+  written-fields : Holds (planBytes d1 d2 weights) 0 0 (headerCells d1 d2 weights) × (fields (planBytes d1 d2 weights) 32 weightWidth (length weights) ≡ weights)
   written-fields = spells-plan d1 d2 weights fit (planBytes d1 d2 weights) .0 (rw (plan-is d1 d2 weights) (pack-spells (planBits d1 d2 weights) (bitlist-plan d1 d2 weights)))
 
   -- its filling
-  written-filling : (i : ℕ) → 32 + 12 * length weights ≤ i → i < 8 * length (planBytes d1 d2 weights) → bit (planBytes d1 d2 weights) i ≡ 0
+  written-filling : (i : ℕ) → 32 + weightWidth * length weights ≤ i → i < 8 * length (planBytes d1 d2 weights) → bit (planBytes d1 d2 weights) i ≡ 0
   written-filling = rw (plan-is d1 d2 weights) (pack-filling (planBits d1 d2 weights) (bitlist-plan d1 d2 weights))
 
 -- a pair's plan file has a plan file's length
-pub length-file : (g : Game) (q : PlanPair) → length (planFileOf g q) ≡ planLength g
+length-file : (g : Game) (q : PlanPair) → length (planFileOf g q) ≡ planLength g
 unfolding planFileOf pairWeights planLength
-length-file g q = length-plan (q one .denominator) (q two .denominator) (pairWeights g q) ∙ ap (λ (k : ℕ). 4 + (12 * k + 7) / 8) (length-order g _)
+length-file g q = length-plan (q one .denominator) (q two .denominator) (pairWeights g q) ∙ ap (λ (k : ℕ). 4 + (weightWidth * k + 7) / 8) (length-order g _)
 
--- The plan file of a pair that fits, over denominators from 1 to 4,095.
-module _ (g : Game) (R : GameRules g) (q : PlanPair) (F : (p : Player) → Fits g p (q p)) (some : (p : Player) → 0 < q p .denominator) (small : (p : Player) → q p .denominator ≤ 4095) where
+-- The plan file of a pair that fits, over denominators that are not 0 and fit.
+module _ (g : Game) (R : GameRules g) (q : PlanPair) (F : (p : Player) → Fits g p (q p)) (some : (p : Player) → 0 < q p .denominator) (small : (p : Player) → q p .denominator ≤ largestDenominator) where
   -- at a set of p's stands p's weight
   own-weight : (p : Player) (h m : ℕ) → T (owns g p h) → q (g .setPlayer h) .moveWeight h m ≡ q p .moveWeight h m
   own-weight p h m o = ap (λ (r : Player). q r .moveWeight h m) (owner g p h o)
@@ -60,7 +60,7 @@ module _ (g : Game) (R : GameRules g) (q : PlanPair) (F : (p : Player) → Fits 
     omega (arith, small one),
     (
       omega (arith, small two),
-      order-each g (λ h. q (g .setPlayer h) .moveWeight h) (λ k. k < 2 ^ 12) (pow-pos 12) (λ p h m l o v.
+      order-each g (λ h. q (g .setPlayer h) .moveWeight h) (λ k. k < 2 ^ weightWidth) (pow-pos weightWidth) (λ p h m l o v.
           rw (own-weight p h m o) (omega (arith, small p, weight-extended (q p) (leading g h) h m, weight-most g R p (q p) (F p) (extended (leading g h) h m) (after {h = h} {m = m} l o v)))),
     ),
   )
@@ -82,13 +82,13 @@ module _ (g : Game) (R : GameRules g) (q : PlanPair) (F : (p : Player) → Fits 
       let bytes = planFileOf g q in
       let i = weightPlace g p h m in
       let run = written-fields (q one .denominator) (q two .denominator) weights weights-fit .1 in
-      sym (fields-at bytes 32 12 (length weights) i (omega (arith, count, place-below g p h m l o v)))
+      sym (fields-at bytes 32 weightWidth (length weights) i (omega (arith, count, place-below g p h m l o v)))
       ∙ ap (λ (k : List ℕ). getD k i 0) run
       ∙ order-at g (λ h. q (g .setPlayer h) .moveWeight h) p h m l o v
       ∙ own-weight p h m o
 
   -- so every sequence has its weight
-  pub written-sequence : (p : Player) (s : Sequence) → IsSequence g p s → sequenceWeight (planPairOf g (planFileOf g q) p) s ≡ sequenceWeight (q p) s
+  written-sequence : (p : Player) (s : Sequence) → IsSequence g p s → sequenceWeight (planPairOf g (planFileOf g q) p) s ≡ sequenceWeight (q p) s
   written-sequence p s empty = weight-empty (planPairOf g (planFileOf g q) p) ∙ written-denominator p ∙ sym (weight-empty (q p))
   written-sequence p s (after {h = h} {m = m} l o v) =
       weight-extended (planPairOf g (planFileOf g q) p) (leading g h) h m ∙ written-weight p h m l o v ∙ sym (weight-extended (q p) (leading g h) h m)

@@ -91,7 +91,7 @@ pub record MoveAt (g : Game) (i : ℕ) : Type 0 where
   pub one-of : move < g .setMoves set
   pub is : i ≡ weightPlace g player set move
 
-pub place-found : (g : Game) (i : ℕ) → i < planMoves g → MoveAt g i
+place-found : (g : Game) (i : ℕ) → i < planMoves g → MoveAt g i
 unfolding planMoves weightPlace weightsBefore
 place-found g i l =
     elim (decLt i (movesBefore g one (g .sets))) [

@@ -14,7 +14,7 @@ use Rattle.algebra.proofs.Searches.{allTo-make}
 use Rattle.model.specs.Bits.{field, runBits, pack}
 use Rattle.model.specs.Game.{Game, Player, one, two, owns}
 use Rattle.model.specs.Sequences.{Sequence, extended, leading}
-use Rattle.model.specs.Plan.{PlanPair, Fits, sequenceWeight, planMoves, weightPlace, weightBit, planPairOf, planWeights}
+use Rattle.model.specs.Plan.{PlanPair, Fits, sequenceWeight, weightWidth, largestDenominator, denominatorAt, planMoves, weightPlace, weightBit, planPairOf, planWeights}
 use Rattle.model.specs.PlanOrder.{inPlanOrder, pairWeights, planFileOf}
 use Rattle.model.specs.Earnings.{_over_, Equal}
 use Rattle.model.specs.Writing.{planBytes}
@@ -46,7 +46,7 @@ sheet-formed g width odds =
     formed-iff g width (sheetBytes g width odds) .passes (length-sheet g width odds, λ i l v. pack-filling (runBits width list) (bitlist-run width list) i (omega arith) v)
 
 -- and it holds its odds, where they fit the width
-pub sheet-odds : (g : Game) (width : ℕ) (odds : Odds) → ((p : Player) (h m : ℕ) → h < g .sets → T (owns g p h) → m < g .setMoves h → odds h m < 2 ^ width) → (h m : ℕ) → h < g .sets → m < g .setMoves h → oddsOf g width (sheetBytes g width odds) h m ≡ odds h m
+sheet-odds : (g : Game) (width : ℕ) (odds : Odds) → ((p : Player) (h m : ℕ) → h < g .sets → T (owns g p h) → m < g .setMoves h → odds h m < 2 ^ width) → (h m : ℕ) → h < g .sets → m < g .setMoves h → oddsOf g width (sheetBytes g width odds) h m ≡ odds h m
 unfolding oddsOf sheetBytes owns
 sheet-odds g width odds small h m l v =
     let list = inPlanOrder g odds in
@@ -60,8 +60,8 @@ sheet-odds g width odds small h m l v =
     ∙ ap (λ (k : List ℕ). getD k i 0) run
     ∙ order-at g odds p h m l own v
 
--- The plan file made of odds to which 20 does not apply, over smallest denominators up to 4,095.
-module _ (g : Game) (R : GameRules g) (odds : Odds) (given : T (oddsGiven g odds)) (small : (p : Player) → smallestD g odds p ≤ 4095) where
+-- The plan file made of odds to which 20 does not apply, over smallest denominators that fit a plan file.
+module _ (g : Game) (R : GameRules g) (odds : Odds) (given : T (oddsGiven g odds)) (small : (p : Player) → smallestD g odds p ≤ largestDenominator) where
   abbrev file : List ℕ
   file = planFileOf g (planFrom g odds)
 
@@ -142,22 +142,21 @@ module _ (g : Game) (R : GameRules g) (q : PlanPair) (F : (p : Player) → Fits 
   returned-probability p = trip-probability g R p (q p) (F p) (some p) (returned g q width) (returned-is p)
 
   -- "a plan already over the smallest D must come back": its denominator
-  pub returned-denominator : (p : Player) → OverSmallest g p (q p) → planFrom g (returned g q width) p .denominator ≡ q p .denominator
+  returned-denominator : (p : Player) → OverSmallest g p (q p) → planFrom g (returned g q width) p .denominator ≡ q p .denominator
   unfolding planFrom
   returned-denominator p least = trip-denominator g R p (q p) (F p) (some p) (returned g q width) (returned-is p) least
 
   -- and its weights
-  pub returned-weight : (p : Player) → OverSmallest g p (q p) → (h m : ℕ) → h < g .sets → T (owns g p h) → m < g .setMoves h → planFrom g (returned g q width) p .moveWeight h m ≡ q p .moveWeight h m
+  returned-weight : (p : Player) → OverSmallest g p (q p) → (h m : ℕ) → h < g .sets → T (owns g p h) → m < g .setMoves h → planFrom g (returned g q width) p .moveWeight h m ≡ q p .moveWeight h m
   returned-weight p least = trip-same g R p (q p) (F p) (some p) (returned g q width) (returned-is p) least
 
--- the denominators of a plan file have 12 bits
-pub plan-small : (g : Game) (plan : List ℕ) (p : Player) → planPairOf g plan p .denominator ≤ 4095
+-- the denominators that a plan file holds fit
+pub plan-small : (g : Game) (plan : List ℕ) (p : Player) → planPairOf g plan p .denominator ≤ largestDenominator
 unfolding planPairOf
-plan-small g plan one = omega (arith, field-fits plan 4 12)
-plan-small g plan two = omega (arith, field-fits plan 16 12)
+plan-small g plan p = omega (arith, field-fits plan (denominatorAt p) weightWidth)
 
--- Both plans of a file over the smallest D: the file comes back "bit for bit", by a sheet whose width holds 4,095.
-module _ (g : Game) (R : GameRules g) (plan : List ℕ) (P : PlanFile g plan) (width : ℕ) (wide : 4095 < 2 ^ width) (least : (p : Player) → OverSmallest g p (planPairOf g plan p)) where
+-- Both plans of a file over the smallest D: the file comes back "bit for bit", by a sheet whose width holds every denominator.
+module _ (g : Game) (R : GameRules g) (plan : List ℕ) (P : PlanFile g plan) (width : ℕ) (wide : largestDenominator < 2 ^ width) (least : (p : Player) → OverSmallest g p (planPairOf g plan p)) where
   abbrev again : PlanPair
   again = planFrom g (returned g (planPairOf g plan) width)
 
@@ -167,10 +166,10 @@ module _ (g : Game) (R : GameRules g) (plan : List ℕ) (P : PlanFile g plan) (w
   weights-again : pairWeights g again ≡ planWeights g plan
   unfolding pairWeights planWeights weightBit planPairOf
   weights-again =
-      order-is g (λ h. again (g .setPlayer h) .moveWeight h) (planWeights g plan) (length-fields plan 32 12 (planMoves g)) (λ p h m l o v.
+      order-is g (λ h. again (g .setPlayer h) .moveWeight h) (planWeights g plan) (length-fields plan 32 weightWidth (planMoves g)) (λ p h m l o v.
       ap (λ (r : Player). again r .moveWeight h m) (owner g p h o)
       ∙ returned-weight g R (planPairOf g plan) (P .fit) (P .denominators) width held p (least p) h m l o v
-      ∙ sym (fields-at plan 32 12 (planMoves g) (weightPlace g p h m) (place-below g p h m l o v)))
+      ∙ sym (fields-at plan 32 weightWidth (planMoves g) (weightPlace g p h m) (place-below g p h m l o v)))
 
   pub plan-sheet-plan : IsBytes plan → planFileOf g again ≡ plan
   unfolding planFileOf

@@ -49,7 +49,7 @@ module _ (g : Game) (R : GameRules g) (p : Player) (x : RealizationPlan) (F : Fi
         ∙ F h l o
 
     -- "all zeros where the plan never arrives"
-    pub zeros-elsewhere : sequenceWeight x (leading g h) ≡ 0 → (m : ℕ) → m < g .setMoves h → odds h m ≡ 0
+    zeros-elsewhere : sequenceWeight x (leading g h) ≡ 0 → (m : ℕ) → m < g .setMoves h → odds h m ≡ 0
     unfolding oddsAt
     zeros-elsewhere z m v = is h m l o v ∙ cond-no {A = ℕ} (ltb 0 (sequenceWeight x (leading g h))) _ 0 (λ t. omega (arith, ltb→lt 0 (sequenceWeight x (leading g h)) t))
 
@@ -61,7 +61,7 @@ module _ (g : Game) (R : GameRules g) (p : Player) (x : RealizationPlan) (F : Fi
     pub arrived : (0 < sequenceWeight x s) ↔ Arrives g odds s
     pub exact : sequenceWeight x s * oddsDenominator g odds s ≡ x .denominator * oddsNumerator g odds s
 
-  pub same-probability : (s : Sequence) → IsSequence g p s → Same s
+  same-probability : (s : Sequence) → IsSequence g p s → Same s
   same-probability = along-sequences g R p Same none more
     where
       none : Same []
@@ -122,21 +122,21 @@ module _ (g : Game) (R : GameRules g) (p : Player) (x : RealizationPlan) (F : Fi
       factor-positive (oddsTotal g odds h) (divisor h l o) (sequenceWeight x (leading g h)) (NatL.mul-comm (oddsTotal g odds h) (divisor h l o) ∙ f) w
 
   -- the plan's own denominator serves
-  pub own-serves : Serves g odds p (x .denominator)
+  own-serves : Serves g odds p (x .denominator)
   unfolding Serves
   own-serves h m v =
       let s = extended (leading g h) h m in
       subst (λ (k : ℕ). oddsDenominator g odds s ∣ k) (same-probability s (after {h = h} {m = m} (v .set) (v .owned) (v .move)) .exact) (NatL.dvd-mul-left (oddsDenominator g odds s) (sequenceWeight x s))
 
   -- so the smallest divides it, and 21 does not apply where the plan's is in the limit
-  pub smallest-divides : smallestD g odds p ∣ x .denominator
+  smallest-divides : smallestD g odds p ∣ x .denominator
   smallest-divides = serves-iff g odds R p (x .denominator) .0 own-serves
 
   pub smallest-at-most : smallestD g odds p ≤ x .denominator
   smallest-at-most = NatL.le-of-dvd some smallest-divides
 
   -- the weight of a sequence in the plan that comes back, over its denominator, is that in the plan, over its
-  pub trip-weights : (s : Sequence) → IsSequence g p s → sequenceWeight (planFrom g odds p) s * x .denominator ≡ sequenceWeight x s * smallestD g odds p
+  trip-weights : (s : Sequence) → IsSequence g p s → sequenceWeight (planFrom g odds p) s * x .denominator ≡ sequenceWeight x s * smallestD g odds p
   trip-weights s i =
       let d = smallestD g odds p in
       let a = oddsNumerator g odds s in
@@ -213,7 +213,7 @@ sheet-trip g R odds p given h m l o v =
           ∙ proportion (b * t) (D * a) (g .setMoves h) (x .moveWeight h) (odds h) k n (λ j u. NatL.mul-comm (b * t) (x .moveWeight h j) ∙ move-exact g odds R p D (smallest-serves g odds R p) h j l o u arrives) m v
           ∙ sym (cond-yes {A = ℕ} (noZeroOdds g odds s) (odds h m / gcdTo (g .setMoves h) (odds h)) 0 arrives)
       | no never ↦
-          let z : W ≡ 0 = made-weight g odds R p s i ∙ weight-never g odds R p D (smallest-serves g odds R p) s never in
+          let z : W ≡ 0 = made-weight g odds R p s i ∙ weight-never g odds D s never in
           cond-no {A = ℕ} (ltb 0 W) _ 0 (λ t. omega (arith, ltb→lt 0 W t))
           ∙ sym (cond-no {A = ℕ} (noZeroOdds g odds s) (odds h m / gcdTo (g .setMoves h) (odds h)) 0 never)
     ]

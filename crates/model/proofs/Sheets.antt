@@ -1,6 +1,6 @@
 -- W-201: the probabilities that odds give, the smallest denominator that serves, and the plan made of a sheet.
 use Prim.Native.Nat.{ℕ, _*_, _/_, _≤_, _<_, _∣_}
-use mathlib.Core.Path.{_≡_, refl, sym, ap, _∙_}
+use mathlib.Core.Path.{_≡_, sym, ap, _∙_}
 use mathlib.Core.Logic.{_↔_}
 use mathlib.Core.Bool.{Bool, _&&_, cond, and-true, and-assoc}
 use mathlib.Core.List.{[], _∷_}
@@ -32,12 +32,12 @@ module _ (g : Game) (odds : Odds) where
   noZero-extended [] h m = and-true (ltb 0 (odds h m))
   noZero-extended (x ∷ s) h m = ap (λ (b : Bool). ltb 0 (odds (x .0) (x .1)) && b) (noZero-extended s h m) ∙ sym (and-assoc (ltb 0 (odds (x .0) (x .1))) (noZeroOdds g odds s) (ltb 0 (odds h m)))
 
-  pub odds-extended : (s : Sequence) (h m : ℕ) → oddsAlong g odds (extended s h m) ≡ oddsAlong g odds s * odds h m
+  odds-extended : (s : Sequence) (h m : ℕ) → oddsAlong g odds (extended s h m) ≡ oddsAlong g odds s * odds h m
   unfolding oddsAlong
   odds-extended [] h m = omega arith
   odds-extended (x ∷ s) h m = ap (λ (k : ℕ). odds (x .0) (x .1) * k) (odds-extended s h m) ∙ sym (NatL.mul-assoc (odds (x .0) (x .1)) (oddsAlong g odds s) (odds h m))
 
-  pub totals-extended : (s : Sequence) (h m : ℕ) → totalsAlong g odds (extended s h m) ≡ totalsAlong g odds s * oddsTotal g odds h
+  totals-extended : (s : Sequence) (h m : ℕ) → totalsAlong g odds (extended s h m) ≡ totalsAlong g odds s * oddsTotal g odds h
   unfolding totalsAlong
   totals-extended [] h m = omega arith
   totals-extended (x ∷ s) h m = ap (λ (k : ℕ). oddsTotal g odds (x .0) * k) (totals-extended s h m) ∙ sym (NatL.mul-assoc (oddsTotal g odds (x .0)) (totalsAlong g odds s) (oddsTotal g odds h))
@@ -54,7 +54,7 @@ module _ (g : Game) (odds : Odds) where
   arrives-after s h m t l = rw (noZero-extended s h m) (yes-and (noZeroOdds g odds s) (ltb 0 (odds h m)) t (lt→ltb 0 (odds h m) l))
 
   -- the probability there, and elsewhere
-  pub numerator-arrived : (s : Sequence) → Arrives s → oddsNumerator g odds s ≡ oddsAlong g odds s
+  numerator-arrived : (s : Sequence) → Arrives s → oddsNumerator g odds s ≡ oddsAlong g odds s
   unfolding oddsNumerator
   numerator-arrived s t = cond-yes (noZeroOdds g odds s) (oddsAlong g odds s) 0 t
 
@@ -62,7 +62,7 @@ module _ (g : Game) (odds : Odds) where
   unfolding oddsNumerator
   numerator-never s n = cond-no (noZeroOdds g odds s) (oddsAlong g odds s) 0 n
 
-  pub denominator-arrived : (s : Sequence) → Arrives s → oddsDenominator g odds s ≡ totalsAlong g odds s
+  denominator-arrived : (s : Sequence) → Arrives s → oddsDenominator g odds s ≡ totalsAlong g odds s
   unfolding oddsDenominator
   denominator-arrived s t = cond-yes (noZeroOdds g odds s) (totalsAlong g odds s) 1 t
 
@@ -83,6 +83,16 @@ module _ (g : Game) (odds : Odds) where
   unfolding totalsAlong
   denominator-empty = denominator-arrived [] arrives-empty
 
+  -- over any d, a sequence that is never arrived at has the weight 0
+  pub weight-never : (d : ℕ) (s : Sequence) → ¬ Arrives s → weightOver g odds d s ≡ 0
+  unfolding weightOver
+  weight-never d s n = rw (numerator-never s n, denominator-never s n, NatL.mul-zero d) (NatL.div-one 0)
+
+  -- and the empty one d
+  pub weight-none : (d : ℕ) → weightOver g odds d [] ≡ d
+  unfolding weightOver
+  weight-none d = rw (numerator-empty, denominator-empty, NatL.mul-one d) (NatL.div-one d)
+
   -- of a sequence with a move more
   pub numerator-extended : (s : Sequence) (h m : ℕ) → Arrives s → 0 < odds h m → oddsNumerator g odds (extended s h m) ≡ oddsNumerator g odds s * odds h m
   numerator-extended s h m t l = numerator-arrived (extended s h m) (arrives-after s h m t l) ∙ odds-extended s h m ∙ ap (λ (k : ℕ). k * odds h m) (sym (numerator-arrived s t))
@@ -91,7 +101,7 @@ module _ (g : Game) (odds : Odds) where
   denominator-extended s h m t l = denominator-arrived (extended s h m) (arrives-after s h m t l) ∙ totals-extended s h m ∙ ap (λ (k : ℕ). k * oddsTotal g odds h) (sym (denominator-arrived s t))
 
   -- a set with odds that are not 0 has a total that is not
-  pub total-positive : (h m : ℕ) → m < g .setMoves h → 0 < odds h m → 0 < oddsTotal g odds h
+  total-positive : (h m : ℕ) → m < g .setMoves h → 0 < odds h m → 0 < oddsTotal g odds h
   unfolding oddsTotal
   total-positive h m v l = omega (arith, count-term (g .setMoves h) (odds h) m v)
 
@@ -120,7 +130,7 @@ module _ (g : Game) (odds : Odds) where
     lowest-positive s i = divided-positive (oddsNumerator g odds s) (oddsDenominator g odds s) (denominator-positive s i)
 
     -- so the multiple of a set of p's is not
-    pub set-positive : (h : ℕ) → h < g .sets → T (owns g p h) → 0 < setMultiple g odds h
+    set-positive : (h : ℕ) → h < g .sets → T (owns g p h) → 0 < setMultiple g odds h
     unfolding setMultiple
     set-positive h l o = lcmTo-positive _ (g .setMoves h) (λ m v. lowest-positive (extended (leading g h) h m) (after {h = h} {m = m} l o v))
 
@@ -190,16 +200,6 @@ module _ (g : Game) (odds : Odds) where
       unfolding weightOver
       weight-exact s i = NatL.div-mul-cancel (oddsDenominator g odds s) (denominator-divides s i)
 
-      -- a sequence that is never arrived at has the weight 0
-      pub weight-never : (s : Sequence) → ¬ Arrives s → weightOver g odds d s ≡ 0
-      unfolding weightOver
-      weight-never s n = rw (numerator-never s n, denominator-never s n, NatL.mul-zero d) (NatL.div-one 0)
-
-      -- and the empty one d
-      pub weight-none : weightOver g odds d [] ≡ d
-      unfolding weightOver
-      weight-none = rw (numerator-empty, denominator-empty, NatL.mul-one d) (NatL.div-one d)
-
       -- the weight of a move, over both denominators
       pub move-exact : (h m : ℕ) → h < g .sets → T (owns g p h) → m < g .setMoves h → Arrives (leading g h) → weightOver g odds d (extended (leading g h) h m) * (oddsDenominator g odds (leading g h) * oddsTotal g odds h) ≡ d * oddsNumerator g odds (leading g h) * odds h m
       move-exact h m l o v t =
@@ -212,14 +212,14 @@ module _ (g : Game) (odds : Odds) where
                 ∙ sym (NatL.mul-assoc d (oddsNumerator g odds s) (odds h m))
             | no none ↦
                 let z : odds h m ≡ 0 = omega arith in
-                ap (λ (k : ℕ). k * (oddsDenominator g odds s * oddsTotal g odds h)) (weight-never (extended s h m) (λ u. none (arrives-before s h m u .1)))
+                ap (λ (k : ℕ). k * (oddsDenominator g odds s * oddsTotal g odds h)) (weight-never d (extended s h m) (λ u. none (arrives-before s h m u .1)))
                 ∙ NatL.zero-mul (oddsDenominator g odds s * oddsTotal g odds h)
                 ∙ sym (NatL.mul-zero (d * oddsNumerator g odds s))
                 ∙ ap (λ (k : ℕ). d * oddsNumerator g odds s * k) (sym z)
           ]
 
       -- at each set the weights add up, where 20 does not apply
-      pub weights-add : (h : ℕ) → h < g .sets → T (owns g p h) → (Arrives (leading g h) → 0 < oddsTotal g odds h) → totalTo (g .setMoves h) (λ m. weightOver g odds d (extended (leading g h) h m)) ≡ weightOver g odds d (leading g h)
+      weights-add : (h : ℕ) → h < g .sets → T (owns g p h) → (Arrives (leading g h) → 0 < oddsTotal g odds h) → totalTo (g .setMoves h) (λ m. weightOver g odds d (extended (leading g h) h m)) ≡ weightOver g odds d (leading g h)
       unfolding oddsTotal
       weights-add h l o given =
           let s = leading g h in
@@ -237,15 +237,15 @@ module _ (g : Game) (odds : Odds) where
                 ∙ ap (λ (k : ℕ). k * totalTo (g .setMoves h) (odds h)) (sym (weight-exact s (leading-sequence g R p h l o)))
                 ∙ NatL.mul-assoc (weightOver g odds d s) b t ∙ NatL.mul-comm (weightOver g odds d s) (b * t))
             | no never ↦
-                count-zero (g .setMoves h) w (λ m v. weight-never (extended s h m) (λ u. never (arrives-before s h m u .0)))
-                ∙ sym (weight-never s never)
+                count-zero (g .setMoves h) w (λ m v. weight-never d (extended s h m) (λ u. never (arrives-before s h m u .0)))
+                ∙ sym (weight-never d s never)
           ]
 
     -- The plan made of a sheet.
     -- each of its sequences has the weight that the odds give it
     pub made-weight : (s : Sequence) → IsSequence g p s → sequenceWeight (planFrom g odds p) s ≡ weightOver g odds (smallestD g odds p) s
     unfolding planFrom
-    made-weight s empty = weight-empty (planFrom g odds p) ∙ sym (weight-none (smallestD g odds p) smallest-serves)
+    made-weight s empty = weight-empty (planFrom g odds p) ∙ sym (weight-none (smallestD g odds p))
     made-weight s (after {h = h} {m = m} l o v) = weight-extended (planFrom g odds p) (leading g h) h m
 
     -- 20, read

@@ -8,7 +8,7 @@ use lib.Dec.{T}
 use Rattle.model.specs.Bits.{field}
 use Rattle.model.specs.Game.{gameOf, Player, inSet}
 use Rattle.model.specs.GameChecks.{hasHeader, hasEdition, countsPositive, hasLength, setMovesInRange, recordsWellFormed, payloadsInRange, nodesAttached, movesLeadOn, weightsObeyRules, pathsInLimit, setsNonEmpty, perfectRecall}
-use Rattle.model.specs.Plan.{planMoves, planPairOf, pairFits}
+use Rattle.model.specs.Plan.{weightWidth, planMoves, planPairOf, pairFits}
 use Rattle.model.specs.PlanChecks.{Files, files, planHasLength, planWellFormed}
 use Rattle.model.specs.Reasons.{PathTo, NoMoveCount, PaddingSpoilt, PayloadOutside, Misplaced, ShareMove, LeadsNowhere, WeightWrong, BreaksRecall, Unbalanced, PlanIllFormed}
 use Rattle.model.specs.Rows.{Rows, row, of, refusal}
@@ -62,7 +62,7 @@ gameRows = headerRows ++ recordRows ++ treeRows
 unfoldable pub planRows : Rows Files
 planRows =
     -- "The plan file's length is wrong."
-    row 14 (λ f. planHasLength (gameOf (f .game)) (f .plan)) (λ f. ¬ (length (f .plan) ≡ 4 + (12 * planMoves (gameOf (f .game)) + 7) / 8))
+    row 14 (λ f. planHasLength (gameOf (f .game)) (f .plan)) (λ f. ¬ (length (f .plan) ≡ 4 + (weightWidth * planMoves (gameOf (f .game)) + 7) / 8))
     -- "Its edition is not 1, D1 or D2 is zero, or a filling or header zero bit is one."
     ∷ row 15 (λ f. planWellFormed (gameOf (f .game)) (f .plan)) (λ f. PlanIllFormed (gameOf (f .game)) (f .plan))
     -- "The plan does not fit."

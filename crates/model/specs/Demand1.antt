@@ -60,5 +60,5 @@ pub record Demand1 : Type 0 where
   pub rewrite-plan : Clause RewritePlan.call GoodFiles
   pub reread-game : Clause RereadGame.call (λ t. FieldsFit t × GameFile (gameBytes t))
   pub reread-plan : Clause RereadPlan.call (λ t. PlanFieldsFit (t .fields) × GoodFiles (RereadPlan.filesOf t))
-  pub plan-from-sheet : Clause (PlanFromSheet.call 12 4095) (PlanFromSheet.GoodSheet 12 4095)
-  pub sheet-from-plan : Clause (SheetFromPlan.call 12) GoodFiles
+  pub plan-from-sheet : (width limit : ℕ) → Clause (PlanFromSheet.call width limit) (PlanFromSheet.GoodSheet width limit)
+  pub sheet-from-plan : (width : ℕ) → Clause (SheetFromPlan.call width) GoodFiles

@@ -1,6 +1,6 @@
 -- Document 01, "The two files" and "Sequence form": realization plans, one for each player.
 -- Document 01's "plan" of a player is his realization plan; its plan file holds a pair of them.
-use Prim.Native.Nat.{ℕ, _+_, _*_, _<_}
+use Prim.Native.Nat.{ℕ, _+_, _*_, _-_, _^_, _<_}
 use mathlib.Core.Path.{_≡_}
 use mathlib.Core.Bool.{Bool, _&&_}
 use mathlib.Core.List.{List}
@@ -45,6 +45,14 @@ abbrev pub Fits : Game → Player → RealizationPlan → Type 0
 Fits g p x = (h : ℕ) → h < g .sets → T (owns g p h) → totalTo (g .setMoves h) (x .moveWeight h) ≡ sequenceWeight x (leading g h)
 
 -- Plan file. Header, 32 bits: edition (4), D1 (12), D2 (12), four zero bits. Then 12 bits for each move of each set.
+-- the bits of a denominator, and of a weight
+abbrev pub weightWidth : ℕ
+weightWidth = 12
+
+-- the largest denominator that has so many: 4,095
+abbrev pub largestDenominator : ℕ
+largestDenominator = 2 ^ weightWidth - 1
+
 -- where a player's denominator begins
 abbrev pub denominatorAt : Player → ℕ
 denominatorAt one = 4
@@ -56,7 +64,7 @@ headerZerosAt = 28
 
 -- the first bit of the weight at a place among all weights
 unfoldable pub weightBit : ℕ → ℕ
-weightBit place = 32 + 12 * place
+weightBit place = 32 + weightWidth * place
 
 module _ (g : Game) where
   -- "the weights of player 1's moves, sets rising and moves rising, then player 2's likewise": how many stand before p's
@@ -75,13 +83,13 @@ module _ (g : Game) where
   -- the pair that a plan file holds
   unfoldable pub planPairOf : List ℕ → PlanPair
   planPairOf bytes p = record {
-    denominator = field bytes (denominatorAt p) 12;
-    moveWeight = λ h m. field bytes (weightBit (weightPlace p h m)) 12;
+    denominator = field bytes (denominatorAt p) weightWidth;
+    moveWeight = λ h m. field bytes (weightBit (weightPlace p h m)) weightWidth;
   }
 
   -- all its weights in file order
   unfoldable pub planWeights : List ℕ → List ℕ
-  planWeights bytes = fields bytes (weightBit 0) 12 planMoves
+  planWeights bytes = fields bytes (weightBit 0) weightWidth planMoves
 
 -- To unfold this is to unfold all of this file: for closed computation.
 unfoldable pub opened : Unit {0}

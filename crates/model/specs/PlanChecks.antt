@@ -6,7 +6,7 @@ use lib.ListN.{length}
 use lib.Dec.{eqb, ltb}
 use Rattle.model.specs.Bits.{field}
 use Rattle.model.specs.Game.{Game, one, two}
-use Rattle.model.specs.Plan.{planMoves, denominatorAt, headerZerosAt, weightBit}
+use Rattle.model.specs.Plan.{weightWidth, denominatorAt, headerZerosAt, weightBit, planMoves}
 
 -- the bytes of the two files
 pub record Files : Type 0 where
@@ -19,7 +19,7 @@ files game plan = record { game = game; plan = plan }
 module _ (g : Game) where
   -- "4 bytes plus 12 bits for each move of each set, filled to a byte"
   unfoldable pub planLength : ℕ
-  planLength = 4 + (12 * planMoves g + 7) / 8
+  planLength = 4 + (weightWidth * planMoves g + 7) / 8
 
   -- 14: "The plan file's length is wrong."
   unfoldable pub planHasLength : List ℕ → Bool
@@ -33,8 +33,8 @@ module _ (g : Game) where
   unfoldable pub planWellFormed : List ℕ → Bool
   planWellFormed bytes =
       eqb (field bytes 0 4) 1
-      && ltb 0 (field bytes (denominatorAt one) 12)
-      && ltb 0 (field bytes (denominatorAt two) 12)
+      && ltb 0 (field bytes (denominatorAt one) weightWidth)
+      && ltb 0 (field bytes (denominatorAt two) weightWidth)
       && eqb (field bytes headerZerosAt 4) 0
       && eqb (filling bytes) 0
 

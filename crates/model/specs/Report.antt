@@ -11,7 +11,7 @@ use lib.Signed.{nonNeg}
 use Rattle.model.specs.Limits.{countLimit}
 use Rattle.model.specs.Game.{Game, gameOf, Player, one, two, other, playerNumber}
 use Rattle.model.specs.Sequences.{Move}
-use Rattle.model.specs.Plan.{PlanPair, planPairOf}
+use Rattle.model.specs.Plan.{PlanPair, weightWidth, planPairOf}
 use Rattle.model.specs.Checks.{pairRefusal}
 use Rattle.model.specs.Earnings.{Fraction, value, valueBase}
 use Rattle.model.specs.BestResponse.{bestValue}
@@ -100,7 +100,7 @@ longestGame = 5 + countLimit + 8 * countLimit
 -- Of the longest plan file: "4 bytes plus 12 bits for each move of each set, filled to a byte". The sets of an accepted
 -- game have fewer moves than it has nodes, so 4,094 at most.
 unfoldable pub longestPlan : ℕ
-longestPlan = 4 + (12 * 4094 + 7) / 8
+longestPlan = 4 + (weightWidth * 4094 + 7) / 8
 
 -- what the program prints for the bytes of two files, "an absent or unreadable file counting as empty": `desk`'s
 -- `after_read` states that of a read that fails; the rest is tested, since no contract can speak of the file system.

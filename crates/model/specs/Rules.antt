@@ -10,7 +10,7 @@ use Rattle.model.specs.Bits.{bit, field}
 use Rattle.model.specs.Game.{Game, gameOf, nodeAt, Player, inSet, nodeMoves}
 use Rattle.model.specs.Sequences.{ownSequence}
 use Rattle.model.specs.GameChecks.{childrenWeight}
-use Rattle.model.specs.Plan.{Fits, planMoves, planPairOf}
+use Rattle.model.specs.Plan.{Fits, weightWidth, planMoves, planPairOf}
 use Rattle.model.specs.PlanChecks.{Files}
 use Rattle.model.specs.Writing.{GameFields, PlanFields}
 use Rattle.model.specs.Reasons.{IsChildAt, PathTo}
@@ -70,7 +70,7 @@ pub record GameFile (bytes : List ℕ) : Type 0 where
 -- A plan file that obeys every rule, for an accepted game.
 pub record PlanFile (g : Game) (bytes : List ℕ) : Type 0 where
   -- "4 bytes plus 12 bits for each move of each set, filled to a byte"
-  pub size : length bytes ≡ 4 + (12 * planMoves g + 7) / 8
+  pub size : length bytes ≡ 4 + (weightWidth * planMoves g + 7) / 8
   -- "edition (4 bits, value 1)"
   pub edition : field bytes 0 4 ≡ 1
   -- 15: neither D1 nor D2 is zero
@@ -78,7 +78,7 @@ pub record PlanFile (g : Game) (bytes : List ℕ) : Type 0 where
   -- "four zero bits"
   pub header-zeros : field bytes 28 4 ≡ 0
   -- "filled to a byte with zero bits"
-  pub filling-zeros : (i : ℕ) → 32 + 12 * planMoves g ≤ i → i < 8 * length bytes → bit bytes i ≡ 0
+  pub filling-zeros : (i : ℕ) → 32 + weightWidth * planMoves g ≤ i → i < 8 * length bytes → bit bytes i ≡ 0
   -- "in each set, the move weights add up to the weight of the own sequence leading to the set"
   pub fit : (p : Player) → Fits g p (planPairOf g bytes p)
 
@@ -128,6 +128,6 @@ pub record FieldsFit (t : GameFields) : Type 0 where
 
 -- Fields that fit, for the plan writer: D1, D2 and every weight, 12 bits each.
 pub record PlanFieldsFit (t : PlanFields) : Type 0 where
-  pub first : t .d1 < 2 ^ 12
-  pub second : t .d2 < 2 ^ 12
-  pub weights : FitField 12 (t .weights)
+  pub first : t .d1 < 2 ^ weightWidth
+  pub second : t .d2 < 2 ^ weightWidth
+  pub weights : FitField weightWidth (t .weights)

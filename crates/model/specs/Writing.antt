@@ -9,6 +9,7 @@ use Rattle.algebra.specs.Arrays.{item, itemZ}
 use Rattle.algebra.specs.Bounded.{allTo, joinTo, listTo}
 use Rattle.model.specs.Bits.{bits, runBits, pack, twosComplement}
 use Rattle.model.specs.Game.{Game, Player, one, two, playerBit, isLeaf, isDecision, isChance}
+use Rattle.model.specs.Plan.{weightWidth}
 
 -- What the game writer is given: D0 and one list a field, those of the sets and those of the nodes side by side.
 pub record GameFields : Type 0 where
@@ -125,7 +126,7 @@ module _ (t : GameFields) where
 
 -- the bytes of a plan file: header, then "all weights as one list in file order"
 unfoldable pub planBytes : (d1 d2 : ℕ) → (weights : List ℕ) → List ℕ
-planBytes d1 d2 weights = pack (bits 4 1 ++ bits 12 d1 ++ bits 12 d2 ++ bits 4 0 ++ runBits 12 weights)
+planBytes d1 d2 weights = pack (bits 4 1 ++ bits weightWidth d1 ++ bits weightWidth d2 ++ bits 4 0 ++ runBits weightWidth weights)
 
 -- every number of the list fits a field of that width
 unfoldable pub allFit : (width : ℕ) → List ℕ → Bool
@@ -191,7 +192,7 @@ module _ (t : GameFields) where
 
 -- 17, for the plan writer
 unfoldable pub planFieldsFit : (d1 d2 : ℕ) → (weights : List ℕ) → Bool
-planFieldsFit d1 d2 weights = allFit 12 (d1 ∷ d2 ∷ weights)
+planFieldsFit d1 d2 weights = allFit weightWidth (d1 ∷ d2 ∷ weights)
 
 -- To unfold this is to unfold all of this file: for closed computation.
 unfoldable pub opened : Unit {0}

@@ -62,7 +62,7 @@ asked b = refl
 
 module _ (g : Game) (odds : Odds) where
   -- the empty sequence's mark
-  pub mark-empty : 1 ≡ markOf g odds []
+  mark-empty : 1 ≡ markOf g odds []
   unfolding markOf
   mark-empty = rw (T→true (noZeroOdds g odds []) (arrives-empty g odds))
 
@@ -145,7 +145,7 @@ module _ {g : Game} (R : GameRules g) (p : Player) (odds : Odds) {x : List ℕ} 
       record { answer = rw (not→false (owns g p next) other); marks = order-skip g R p (markOf g odds) v K other }
 
 -- check 20 at every place of the order is check 20 at every set
-pub given-in-order : {g : Game} → GameRules g → (odds : Odds) (p : Player) → allTo (g .sets) (λ i. givenAt g odds p (item (setOrder g) i)) ≡ playerGiven g odds p
+given-in-order : {g : Game} → GameRules g → (odds : Odds) (p : Player) → allTo (g .sets) (λ i. givenAt g odds p (item (setOrder g) i)) ≡ playerGiven g odds p
 unfolding playerGiven
 given-in-order {g} R odds p =
     bool-same (allTo (g .sets) (λ i. givenAt g odds p (item (setOrder g) i))) (allTo (g .sets) (givenAt g odds p))

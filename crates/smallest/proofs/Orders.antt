@@ -14,7 +14,7 @@ use Rattle.algebra.specs.Bounded.{totalTo}
 use Rattle.algebra.specs.Divisors.{lcm, lcmTo}
 use Rattle.algebra.proofs.Divisors.{lcm-one, lcmTo-positive, lcmTo-iff, lcmTo-at, lcmTo-fewer}
 use Rattle.algebra.proofs.Sections.{held-as}
-use Rattle.algebra.proofs.Tests.{dec, cond-yes, cond-no}
+use Rattle.algebra.proofs.Tests.{cond-yes, cond-no}
 use Rattle.model.specs.Game.{Game, Player, playerOf, owns}
 use Rattle.model.specs.Sequences.{extended, leading, moveNumber, leadingNumber, sequenceCount}
 use Rattle.model.specs.Rules.{GameRules}
@@ -36,12 +36,12 @@ use Rattle.smallest.proofs.Probabilities.{lowest-at-most, lowest-empty,
 
 module _ {g : Game} (R : GameRules g) (odds : Odds) (p : Player) where
   -- the multiple of any place of the order is above 0
-  pub order-positive : (i : ℕ) → i < g .sets → 0 < orderMultiple g odds p i
+  order-positive : (i : ℕ) → i < g .sets → 0 < orderMultiple g odds p i
   unfolding orderMultiple
   order-positive i l = own-positive g odds R p (item (setOrder g) i) (order-set g R i l)
 
   -- in the order or by number, the common multiple is the same
-  pub by-order : lcmTo (g .sets) (orderMultiple g odds p) ≡ smallestD g odds p
+  by-order : lcmTo (g .sets) (orderMultiple g odds p) ≡ smallestD g odds p
   unfolding smallestD orderMultiple
   by-order =
       let f : ℕ → ℕ = λ h. cond (owns g p h) (setMultiple g odds h) 1 in
@@ -124,7 +124,7 @@ module _ {g : Game} (R : GameRules g) (odds : Odds) (p : Player) where
   -- The sets before place n are taken: their common multiple is within the limit.
   pub record Taken (limit n multiple : ℕ) (numerators denominators : List ℕ) : Type 0 where
     pub within : InLimit multiple limit
-    pub multiple-is : multiple ≡ lcmTo n (orderMultiple g odds p)
+    multiple-is : multiple ≡ lcmTo n (orderMultiple g odds p)
     pub probabilities : Probabilities g odds p n numerators denominators
 
   -- none yet: the empty sequence has the probability 1

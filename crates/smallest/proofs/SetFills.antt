@@ -19,14 +19,14 @@ use Rattle.smallest.proofs.Lowest.{times-proper}
 
 -- how large the probability of each move of a set that is asked for can be
 module _ {set : SetSequences} {before : Probability} {total : ℕ} {odds numerators denominators : List ℕ} {multiple limit : ℕ} (A : SetAsked set before total odds numerators denominators multiple limit) where
-  pub part-proper : (m : ℕ) → m < set .moves → ProperTo (weightLimit * (64 * weightLimit)) (moveProbability before total odds (set .start) m)
+  part-proper : (m : ℕ) → m < set .moves → ProperTo (weightLimit * (64 * weightLimit)) (moveProbability before total odds (set .start) m)
   unfolding moveProbability
   part-proper m l = times-proper (A .proper) (rw (A .total-is) (count-term (set .moves) (λ k. item odds (set .start + k)) m l)) (A .total-small)
 
 -- The first m moves are done.
 pub record Done (before : Probability) (total : ℕ) (odds : List ℕ) (start moves multiple limit : ℕ) (numerators₀ numerators denominators₀ denominators : List ℕ) (m common : ℕ) : Type 0 where
   pub few : m ≤ moves
-  pub common-is : common ≡ cappedFrom limit multiple m (λ k. moveProbability before total odds start k .denominator)
+  common-is : common ≡ cappedFrom limit multiple m (λ k. moveProbability before total odds start k .denominator)
   pub within : InLimit common limit
   pub numerators-held : Held start (λ k. moveProbability before total odds start k .numerator) m numerators
   pub denominators-held : Held start (λ k. moveProbability before total odds start k .denominator) m denominators

@@ -10,7 +10,7 @@ use Rattle.algebra.specs.Arrays.{item, over}
 use Rattle.algebra.proofs.Lists.{listTo-cong}
 use Rattle.algebra.proofs.Tests.{cond-yes}
 use Rattle.model.specs.Limits.{countLimit, weightLimit}
-use Rattle.model.specs.Game.{Game, Player, playerOf}
+use Rattle.model.specs.Game.{Game, Player}
 use Rattle.model.specs.Sequences.{sequenceCount}
 use Rattle.model.specs.Demand2.{sequenceAt}
 use Rattle.model.specs.Rules.{GameRules}

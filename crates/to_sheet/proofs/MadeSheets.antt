@@ -1,7 +1,7 @@
 -- The sheet of a plan: its odds as they are read of both files, and the sheet of them.
 use Prim.Native.Nat.{ℕ, _≤_}
-use mathlib.Core.Path.{_≡_, refl, sym, ap, _∙_, subst}
-use mathlib.Core.List.{List, [], _∷_, _++_}
+use mathlib.Core.Path.{_≡_, refl, sym, ap, _∙_}
+use mathlib.Core.List.{List, [], _++_}
 use native.Mathlib.Omega.{arith}
 use lib.IntN.{ℤ}
 use lib.ListN.{length, take}
@@ -15,14 +15,13 @@ use Rattle.model.specs.PlanChecks.{Files, files}
 use Rattle.model.specs.Sheet.{sheetBytes}
 use Rattle.model.specs.Rows.{refusal}
 use Rattle.model.specs.Checks.{pairRows, pairRefusal}
-use Rattle.model.specs.Call.{given, refused, afterCall, Outcome, outcome, run}
+use Rattle.model.specs.Call.{given, refused, afterCall, outcome, run}
 use Rattle.model.specs.Exported.{refusalOf}
-use Rattle.model.specs.calls.SheetFromPlan.{call, Returns, sheetFromPlan}
+use Rattle.model.specs.calls.SheetFromPlan.{call}
 use Rattle.model.proofs.Budget.{game-limits}
 use Rattle.model.proofs.Checks.{game-rules, plan-rules, pair-parts, pair-named, pair-refusal}
 use Rattle.model.proofs.Numbers.{plan-moves-few}
 use Rattle.model.proofs.PlanOrder.{length-order}
-use Rattle.model.proofs.calls.SheetFromPlan.{returns}
 use Rattle.checks.specs.declared.WriteAnswer.{WriteAnswer}
 use Rattle.checks.specs.declared.WriteAnswer.the-variants.{Written, Refused}
 use Rattle.checks.specs.Answers.{writeAnswered}
@@ -112,7 +111,3 @@ module _ (width : ℕ) (game plan out : List ℕ) where
   sheet-made R =
       rw (R .odds)
       (same-run (sheetCall width) (call width) tt pair-named (oddsInOrder pair) pair (out, tt) (ends (begin [] (oddsInOrder pair)) ∙ sym (R .fits)) (λ e. (refl, refl)))
-
--- What the call's outcome means follows from what it is.
-pub sheet-returns : (game plan out : List ℕ) {o : Outcome (ℕ ∷ []) ℕ} → o ≡ sheetFromPlan game plan out → (o ≡ sheetFromPlan game plan out) × Returns 12 4095 (files game plan) out o
-sheet-returns game plan out e = (e, subst (Returns 12 4095 (files game plan) out) (sym e) (returns game plan out))

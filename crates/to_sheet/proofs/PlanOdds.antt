@@ -27,7 +27,7 @@ use Rattle.to_sheet.specs.Parts.{partsOf, partsAt, playerParts}
 use Rattle.to_sheet.proofs.SetParts.{parts-own, parts-other}
 
 -- "all zeros where the plan never arrives": there the weights are 0 already, and so are their parts
-pub parts-are-odds : (g : Game) (x : RealizationPlan) (h m : ℕ) → totalTo (g .setMoves h) (x .moveWeight h) ≡ sequenceWeight x (leading g h) → m < g .setMoves h → partsOf g x h m ≡ oddsAt g x h m
+parts-are-odds : (g : Game) (x : RealizationPlan) (h m : ℕ) → totalTo (g .setMoves h) (x .moveWeight h) ≡ sequenceWeight x (leading g h) → m < g .setMoves h → partsOf g x h m ≡ oddsAt g x h m
 unfolding oddsAt partsOf
 parts-are-odds g x h m fits v =
     let arrives = sequenceWeight x (leading g h) in

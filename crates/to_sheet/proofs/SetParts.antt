@@ -45,7 +45,7 @@ module _ (g : Game) (p : Player) (x : List ℕ) where
   unfolding partsAt block
   length-below h = length-before g (partsOf g (planByNumber g p (item x))) p h
 
-  pub length-player : length (playerParts g p x) ≡ movesBefore g p (g .sets)
+  length-player : length (playerParts g p x) ≡ movesBefore g p (g .sets)
   unfolding playerParts
   length-player = length-below (g .sets)
 
@@ -106,7 +106,7 @@ module _ {g : Game} {p : Player} {x : List ℕ} {before : ℕ} {out : List ℕ} 
       record { is = put ∙ rw (B .is, ← length-below g p x h, placed-twice before l (partsAt g p x h) out b, add-one, joinTo-suc) }
 
   -- the buffer keeps its length
-  pub below-long : {h : ℕ} {after : List ℕ} → PutBelow g p x before out h after → before + movesBefore g p h ≤ length out → length after ≡ length out
+  below-long : {h : ℕ} {after : List ℕ} → PutBelow g p x before out h after → before + movesBefore g p h ≤ length out → length after ≡ length out
   below-long {h} B b = ap length (B .is) ∙ length-placed before (joinTo h (partsAt g p x)) out (omega (arith, length-below g p x h))
 
   -- the end

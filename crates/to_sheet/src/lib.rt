@@ -3,6 +3,7 @@ ghost use mathlib.Core.Path.{_≡_};
 ghost use Prim.Native.Nat.{_≤_};
 ghost use lib.ListN.{length};
 ghost use Rattle.model.specs.Limits.{countLimit};
+ghost use Rattle.model.specs.Plan.{weightWidth, largestDenominator};
 ghost use Rattle.model.specs.PlanChecks.{files};
 ghost use Rattle.model.specs.Call.{outcome, run};
 ghost use Rattle.model.specs.calls.SheetFromPlan.{call, Returns, sheetFromPlan};
@@ -65,7 +66,7 @@ fn make(game: &[u8], plan: &[u8], out: &mut [u8], width: usize) -> WriteAnswer
 // Makes the play sheet of a plan: 12 bits a move, as its weights have. By the second clause the plan made of the sheet gives the same probabilities.
 pub fn sheet_from_plan(game: &[u8], plan: &[u8], out: &mut [u8]) -> WriteAnswer
     ensures { λ r. ⌜ outcome (writeAnswered r) (now (out .exit), tt) ≡ sheetFromPlan (now (game .entry)) (now (plan .entry)) (now (out .entry)) ⌝ }
-    ensures { λ r. ⌜ Returns 12 4095 (files (now (game .entry)) (now (plan .entry))) (now (out .entry)) (outcome (writeAnswered r) (now (out .exit), tt)) ⌝ }
+    ensures { λ r. ⌜ Returns weightWidth largestDenominator (files (now (game .entry)) (now (plan .entry))) (now (out .entry)) (outcome (writeAnswered r) (now (out .exit), tt)) ⌝ }
 {
     make(game, plan, out, PlanHeader::WEIGHT_BITS)
 }

@@ -29,6 +29,7 @@ use Rattle.model.specs.calls.Verdict as Call
 use Rattle.model.specs.calls.Verdict.{Stated}
 use Rattle.model.specs.Demand3.{Demand3Met}
 use Rattle.model.proofs.Budget.{Budget, budget, game-limits, plan-limits}
+use Rattle.model.proofs.Call.{meant}
 use Rattle.model.proofs.Checks.{game-rules, plan-rules, pair-parts, pair-named}
 use Rattle.model.proofs.calls.Verdict.{demand3}
 use Rattle.checks.proofs.Chains.{begin, ends, call-refuses, call-gives, same-run}
@@ -55,7 +56,7 @@ module _ (game plan buffer : List ℕ) where
 
   -- demand 3 follows from the equation
   judgement : {o : Outcome (ℕ ∷ []) Stated} → o ≡ Call.verdictCall game plan buffer → Judgement o
-  judgement e = (e, subst (Demand3Met game plan buffer) (sym e) (demand3 game plan buffer))
+  judgement e = meant (Demand3Met game plan buffer) e (demand3 game plan buffer)
 
   -- the pair's refusal
   pub pair-refused : {n : ℕ} → n ≡ pairRefusal game plan → ¬ (n ≡ 0) → Judgement (outcome (refused n) (buffer, tt))

@@ -22,7 +22,7 @@ use Rattle.checks.proofs.Chains.{first-broken, then-second, fine-holds, broken-
 use Rattle.smallest.specs.Fractions.{capped}
 use Rattle.smallest.specs.Multiples.{smallestWeight, Weighed}
 use Rattle.smallest.proofs.Capped.{capped-in, capped-some}
-use Rattle.weighing.specs.Weighing.{BothHeld, BothWeighed, checkedAs}
+use Rattle.weighing.specs.Weighing.{BothWeighed, checkedAs}
 
 -- a number within the limit is not 0 in its place
 capped-tells : (limit n : ℕ) → 0 < n → ltb 0 (capped limit n) ≡ leb n limit
@@ -34,11 +34,11 @@ capped-tells limit n some =
 -- One player's turn.
 module _ {g : Game} (R : GameRules g) {odds : Odds} {p : Player} {limit d : ℕ} {x x' : List ℕ} (W : Weighed g odds p limit d x x') where
   -- the test of his D is that of the smallest
-  pub test-is : ltb 0 d ≡ leb (smallestD g odds p) limit
+  test-is : ltb 0 d ≡ leb (smallestD g odds p) limit
   test-is = ap (ltb 0) (W .answer) ∙ capped-tells limit (smallestD g odds p) (smallest-positive g odds R p)
 
   -- where it passes, his weights stand in the array
-  pub weights-held : ltb 0 d ≡ true → sequenceCount g p ≤ length x → Holds (smallestWeight g odds p) (sequenceCount g p) x'
+  weights-held : ltb 0 d ≡ true → sequenceCount g p ≤ length x → Holds (smallestWeight g odds p) (sequenceCount g p) x'
   weights-held t room = filled x (W .weights ∙ cond-yes (ltb 0 d) _ x (true→T (ltb 0 d) t)) room
 
 -- Both players' turns.

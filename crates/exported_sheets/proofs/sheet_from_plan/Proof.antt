@@ -1,17 +1,22 @@
 -- The length goes to the reference; a refusal leaves it as it was.
 use mathlib.Core.Path.{refl}
-use Rattle.checks.specs.Answers.{writeAnswered}
-use Rattle.model.specs.Exported.{same}
-use Rattle.model.proofs.Exported.{exports}
+use native.Mathlib.Omega.{arith}
+use native.Mathlib.Nat.{le-refl}
+use Rattle.model.specs.Plan.{weightWidth, largestDenominator}
+use Rattle.model.specs.PlanChecks.{files}
 use Rattle.exported_sheets.proofs.Promises.{returned}
 use Rattle.exported_sheets.proofs.sheet_from_plan.Statement.{statement}
 use Rattle.exported_sheets.proofs.sheet_from_plan.Tie as tie
 
 gives : tie.Need-returns
-gives c = let a = c .before .before .before .before .before .before .before .before .before .before .args in returned (a .game .now) (a .plan .now) (a .size .now) (a .out .now) (exports writeAnswered same _ (c .before .before .before .before .before .sheet-from-plan .ensures .0) (c .before .answer .given .1) refl refl)
+gives c =
+    let a = c .before .before .before .before .before .before .before .before .before .before .args in
+    returned weightWidth largestDenominator (a .size .now) (a .out .now) (omega arith) (le-refl largestDenominator) (files (a .game .now) (a .plan .now)) (c .before .answer .given .1) (c .before .before .before .before .before .sheet-from-plan .ensures .0) refl refl
 
 refuses : tie.Need-returns-2
-refuses c = let a = c .before .before .before .before .before .before .before .before .before .before .args in returned (a .game .now) (a .plan .now) (a .size .now) (a .out .now) (exports writeAnswered same _ (c .before .before .before .before .before .sheet-from-plan .ensures .0) (c .before .answer2 .given .1) refl refl)
+refuses c =
+    let a = c .before .before .before .before .before .before .before .before .before .before .args in
+    returned weightWidth largestDenominator (a .size .now) (a .out .now) (omega arith) (le-refl largestDenominator) (files (a .game .now) (a .plan .now)) (c .before .answer2 .given .1) (c .before .before .before .before .before .sheet-from-plan .ensures .0) refl refl
 
 pub sheet-from-plan-spec : {M : Type 1} → statement M
 sheet-from-plan-spec =

@@ -5,6 +5,7 @@ use native.Mathlib.Nat.{le-refl}
 use borrow.Author.Needs.{needs}
 use lib.Seq.{length-take-le}
 use Rattle.model.specs.Limits.{countLimit}
+use Rattle.model.specs.calls.WritePlan.{writePlan}
 use Rattle.from_sheet.proofs.SheetPlans.{front-weights}
 use Rattle.from_sheet.proofs.write.Statement.{statement}
 use Rattle.from_sheet.proofs.write.Tie as tie
@@ -17,8 +18,10 @@ prefix c =
 returns : tie.Need-returns
 returns c =
     let a = c .before .before .before .before .before .before .before .before .before .before .before .before .before .before .args in
-    c .before .before .write .ensures
-    ∙ rw (c .before .before .before .before .before .before .item .ensures .0, c .before .before .before .before .before .item2 .ensures .0, front-weights (a .counts) (a .x .now) (a .y .now) _ (c .before .before .before .before .before .before .before .before .before .put-weights .ensures) (c .before .before .before .before .before .before .before .weight-count .ensures))
+    let first = c .before .before .before .before .before .before .item .ensures .0 in
+    let second = c .before .before .before .before .before .item2 .ensures .0 in
+    let weights = front-weights (a .counts) (a .x .now) (a .y .now) _ (c .before .before .before .before .before .before .before .before .before .put-weights .ensures) (c .before .before .before .before .before .before .before .weight-count .ensures) in
+    c .before .before .write .ensures ∙ (λ i. writePlan (first i) (second i) (weights i) (a .out .now))
 
 pub write-spec : {M : Type 1} → statement M
 write-spec =

@@ -9,7 +9,7 @@ use lib.Dec.{T}
 use lib.ListN.{length, take}
 use Rattle.model.specs.Game.{gameOf, Player}
 use Rattle.model.specs.Sequences.{extended, leading}
-use Rattle.model.specs.Plan.{planPairOf}
+use Rattle.model.specs.Plan.{largestDenominator, planPairOf}
 use Rattle.model.specs.Sheet.{sheetWellFormed, smallestD, oddsGiven, smallestInLimit, OverSmallest}
 use Rattle.model.specs.Rows.{Row, Rows, row, of}
 use Rattle.model.specs.Checks.{headerRows, recordRows, treeRows, gameRows}
@@ -17,7 +17,7 @@ use Rattle.model.specs.Rules.{GameFile}
 use Rattle.model.specs.Call.{refused, Buffers, Lent, roomRows, allRows, callRefusal, run}
 use Rattle.model.specs.Exported.{exported, same}
 use Rattle.model.specs.Demand1.{Clause}
-use Rattle.model.specs.calls.PlanFromSheet.{SheetFiles, sheetFiles, NoneServes, oddsIn, sheetRows, madePlan, call, SheetFile, GoodSheet, MadeOf, LimitPassed, Makes, MakesIn, planFromSheet}
+use Rattle.model.specs.calls.PlanFromSheet.{SheetFiles, NoneServes, oddsIn, sheetRows, madePlan, call, SheetFile, GoodSheet, MadeOf, LimitPassed, Makes, MakesIn}
 use Rattle.model.proofs.Rows.{AllPass, Decided, Any, pass-of, pass-append, decided-of, decided-append, refusal-at}
 use Rattle.model.proofs.Checks.{game-decided}
 use Rattle.model.proofs.Call.{clause, refused-iff, gives-front}
@@ -29,7 +29,7 @@ use Rattle.model.proofs.SheetFiles.{made-file, made-denominator, made-p
 
 module _ (width limit : ℕ) where
   -- Rows 19 to 21, of a good game file.
-  pub sheet-decided : Decided (λ f. Unit {0} × GameFile (f .game)) (sheetRows width limit) (SheetFile width limit)
+  sheet-decided : Decided (λ f. Unit {0} × GameFile (f .game)) (sheetRows width limit) (SheetFile width limit)
   unfolding sheetRows
   sheet-decided = record {
     numbered = tt;
@@ -72,9 +72,9 @@ module _ (width limit : ℕ) where
       let odds = oddsIn width f in
       limit-each g odds limit .holds (limit-exact g odds limit (good .0 .rules) .passes (good .1 .served))
 
-  -- The plan file made of a good sheet, where no D above 4,095 is allowed: what is true of it,
-  module _ (most : limit ≤ 4095) (f : SheetFiles) (good : GoodSheet width limit f) where
-    small : (p : Player) → smallestD (gameOf (f .game)) (oddsIn width f) p ≤ 4095
+  -- The plan file made of a good sheet, where every D up to the limit fits a plan file: what is true of it,
+  module _ (most : limit ≤ largestDenominator) (f : SheetFiles) (good : GoodSheet width limit f) where
+    small : (p : Player) → smallestD (gameOf (f .game)) (oddsIn width f) p ≤ largestDenominator
     small p = NatL.le-trans (good-limit f good p) most
 
     pub made-of : MadeOf width f (madePlan width f)
@@ -118,7 +118,7 @@ module _ (width limit : ℕ) where
       (λ p. let (g, (t19, (t20, end))) = both .0 p in (file .1 g, t19, t20), λ h. both .1 (file .0 (h .0), (h .1, (h .2, tt))))
 
   -- 21 is "given exactly then"
-  pub limited-exactly : (f : SheetFiles) (out : List ℕ) → (run (call width limit) f (out, tt) .answer ≡ refused 21) ↔ LimitPassed width limit f
+  limited-exactly : (f : SheetFiles) (out : List ℕ) → (run (call width limit) f (out, tt) .answer ≡ refused 21) ↔ LimitPassed width limit f
   limited-exactly f out =
       let g = gameOf (f .game) in
       let odds = oddsIn width f in
@@ -131,23 +131,22 @@ module _ (width limit : ℕ) where
         λ h. number .1 (before-pass f .1 (h .game, h .formed, h .odds), limit-fails g odds limit (h .game .rules) .fails (h .player, h .none)),
       )
 
--- what the call's outcome means
-pub makes : (game sheet out : List ℕ) → Makes 12 4095 (sheetFiles game sheet) out (planFromSheet game sheet out)
-unfolding call
-makes game sheet out =
-    let f = sheetFiles game sheet in
-    record {
-      made = λ good room.
-          let (answer, front) = gives-front (call 12 4095) (rows-decided 12 4095) f out refl good room in
-          (length (madePlan 12 f), answer, subst (MadeOf 12 f) (sym front) (made-of 12 4095 (NatL.le-refl 4095) f good));
-      limited = limited-exactly 12 4095 f out;
-    }
+  -- what the call's outcome means
+  pub makes : limit ≤ largestDenominator → (f : SheetFiles) (out : List ℕ) → Makes width limit f out (run (call width limit) f (out, tt))
+  unfolding call
+  makes most f out = record {
+    made = λ good room.
+        let (answer, front) = gives-front (call width limit) rows-decided f out refl good room in
+        (length (madePlan width f), answer, subst (MadeOf width f) (sym front) (made-of most f good));
+    limited = limited-exactly f out;
+  }
 
--- and exported
-pub makes-in : (game sheet : List ℕ) (before : ℕ) (out : List ℕ) → MakesIn 12 4095 (sheetFiles game sheet) out (exported same before (planFromSheet game sheet out))
-makes-in game sheet before out =
-    let m = makes game sheet out in
-    record {
-      made = λ good room. let (size, answer, is) = m .made good room in exported-gives before (MadeOf 12 (sheetFiles game sheet)) (planFromSheet game sheet out) answer is;
-      limited = Iff·trans (exported-refuses before (planFromSheet game sheet out) 20) (m .limited);
-    }
+  -- and exported
+  pub makes-in : limit ≤ largestDenominator → (f : SheetFiles) (before : ℕ) (out : List ℕ) → MakesIn width limit f out (exported same before (run (call width limit) f (out, tt)))
+  makes-in most f before out =
+      let o = run (call width limit) f (out, tt) in
+      let m = makes most f out in
+      record {
+        made = λ good room. let (size, answer, is) = m .made good room in exported-gives before (MadeOf width f) o answer is;
+        limited = Iff·trans (exported-refuses before o 20) (m .limited);
+      }

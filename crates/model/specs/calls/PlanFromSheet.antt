@@ -8,7 +8,7 @@ use lib.Dec.{T}
 use Rattle.model.specs.Bits.{bit}
 use Rattle.model.specs.Game.{Game, gameOf, Player}
 use Rattle.model.specs.Sequences.{extended, leading}
-use Rattle.model.specs.Plan.{planMoves, planPairOf}
+use Rattle.model.specs.Plan.{weightWidth, largestDenominator, planMoves, planPairOf}
 use Rattle.model.specs.PlanOrder.{planFileOf}
 use Rattle.model.specs.Earnings.{Equal}
 use Rattle.model.specs.Sheet.{Odds, MoveOf, oddsOf, sheetWellFormed, noZeroOdds, oddsDenominator, oddsProbability, Serves, planFrom, oddsGiven, smallestInLimit, planProbability}
@@ -108,6 +108,6 @@ module _ (width limit : ℕ) where
     pub made : GoodSheet f → length (madePlan width f) ≤ length out → (x .refusal ≡ 0) × MadeOf width f (take (x .numbers) (x .buffers .0))
     pub limited : (x .refusal ≡ 21) ↔ LimitPassed f
 
--- the call as a function: 12 bits a move, and D up to 4,095
+-- the call as a function: 12 bits a move, and D up to 4,095, as a plan file has
 abbrev pub planFromSheet : (game sheet out : List ℕ) → Outcome (ℕ ∷ []) ℕ
-planFromSheet game sheet out = run (call 12 4095) (sheetFiles game sheet) (out, tt)
+planFromSheet game sheet out = run (call weightWidth largestDenominator) (sheetFiles game sheet) (out, tt)

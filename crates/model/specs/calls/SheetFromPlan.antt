@@ -4,7 +4,7 @@ use mathlib.Core.Path.{_≡_}
 use mathlib.Core.List.{List, [], _∷_}
 use lib.ListN.{length, take}
 use Rattle.model.specs.Game.{gameOf, Player}
-use Rattle.model.specs.Plan.{PlanPair, planPairOf}
+use Rattle.model.specs.Plan.{PlanPair, weightWidth, planPairOf}
 use Rattle.model.specs.PlanChecks.{Files, files}
 use Rattle.model.specs.Earnings.{Equal}
 use Rattle.model.specs.Sheet.{MoveOf, sheetBytes, sheetFrom, OverSmallest, planProbability}
@@ -58,4 +58,4 @@ module _ (width limit : ℕ) where
 
 -- the call as a function: 12 bits a move, as a plan's weights have
 abbrev pub sheetFromPlan : (game plan out : List ℕ) → Outcome (ℕ ∷ []) ℕ
-sheetFromPlan game plan out = run (call 12) (files game plan) (out, tt)
+sheetFromPlan game plan out = run (call weightWidth) (files game plan) (out, tt)

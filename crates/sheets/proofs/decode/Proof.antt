@@ -14,4 +14,4 @@ read-run-requires c κs =
     (s .pre .0, omega (arith, NatL.mul-le-mul (s .pre .0) (s .pre .1), NatL.mul-le-mul (s .pre .0) (s .pre .2)), omega (arith, s .pre .3))
 
 pub decode-spec : {M : Type 1} → statement M
-decode-spec = tie.close (tie.spec mul-read-run read-run-requires (λ c. search needs) (λ c. search needs))
+decode-spec = tie.close (tie.spec mul-read-run read-run-requires (λ c. search needs) (λ c. c .before .before .read-run .ensures))
