@@ -86,23 +86,38 @@ first = planBytes 1 1 (1 ∷ 0 ∷ [])
 unfoldable thirds : List ℕ
 thirds = gameFile 3 [] [] (chance 0 0 3 2 ∷ leaf 0 0 1 (negsuc 4) (pos 2) ∷ leaf 0 1 2 (pos 0) (pos 0) ∷ [])
 
--- What the desk program prints: for plan F; for plan M, whose values are 36 and 24 over 9; where player 2 gains;
--- where the gain is 2 over 4; where amounts are -1, -2,000, 2,998 and the gain 2,999 over 3,000; and where they are -5 and 2 over 3.
+-- one leaf: -3 and 0
+unfoldable nought : List ℕ
+nought = gameFile 1 [] [] (leaf 0 0 1 (negsuc 2) (pos 0) ∷ [])
+
+-- the lowest and the highest payoff, D0 = 4,095
+unfoldable extreme : List ℕ
+extreme = gameFile 4095 [] [] (leaf 0 0 4095 (negsuc 32767) (pos 32767) ∷ [])
+
+-- D1 = D2 = 4,095
+unfoldable large : List ℕ
+large = planBytes 4095 4095 []
+
+-- What the desk program prints: for plan F, D1 = 1 and D2 = 2; for plan M, over 9 and not reduced; where player 2 gains;
+-- for plan F with D1 = 2; where amounts are below 0; where they are no whole numbers; where one is 0 beside one below 0;
+-- and where they are the largest.
 abbrev listings : List Case
 listings =
-    (printed study planF is ascii "value 1 3.000\nvalue 2 3.000\nbest 1 3.500\nbest 2 3.000\ndeviation player 1 gain 0.500\nset 0 move 0\nset 2 move 0\n")
-    ∷ (printed study planM is ascii "value 1 4.000\nvalue 2 2.666\nbest 1 4.000\nbest 2 2.666\naccepted\n")
-    ∷ (printed study second is ascii "value 1 6.000\nvalue 2 1.000\nbest 1 6.000\nbest 2 3.000\ndeviation player 2 gain 2.000\nset 1 move 0\n")
-    ∷ (printed study doubled is ascii "value 1 3.000\nvalue 2 3.000\nbest 1 3.500\nbest 2 3.000\ndeviation player 1 gain 0.500\nset 0 move 0\nset 2 move 0\n")
-    ∷ (printed losing first is ascii "value 1 0.000\nvalue 2 -0.666\nbest 1 0.999\nbest 2 -0.666\ndeviation player 1 gain 0.999\nset 0 move 1\n")
-    ∷ (printed thirds bare is ascii "value 1 -1.666\nvalue 2 0.666\nbest 1 -1.666\nbest 2 0.666\naccepted\n")
+    (printed study planF is ascii "value 1 6 of 2\nvalue 2 6 of 2\nbest 1 7 of 2\nbest 2 6 of 2\ndeviation player 1 gain 1 of 2\nset 0 move 0\nset 2 move 0\n")
+    ∷ (printed study planM is ascii "value 1 36 of 9\nvalue 2 24 of 9\nbest 1 36 of 9\nbest 2 24 of 9\naccepted\n")
+    ∷ (printed study second is ascii "value 1 6 of 1\nvalue 2 1 of 1\nbest 1 6 of 1\nbest 2 3 of 1\ndeviation player 2 gain 2 of 1\nset 1 move 0\n")
+    ∷ (printed study doubled is ascii "value 1 12 of 4\nvalue 2 12 of 4\nbest 1 14 of 4\nbest 2 12 of 4\ndeviation player 1 gain 2 of 4\nset 0 move 0\nset 2 move 0\n")
+    ∷ (printed losing first is ascii "value 1 -1 of 3000\nvalue 2 -2000 of 3000\nbest 1 2998 of 3000\nbest 2 -2000 of 3000\ndeviation player 1 gain 2999 of 3000\nset 0 move 1\n")
+    ∷ (printed thirds bare is ascii "value 1 -5 of 3\nvalue 2 2 of 3\nbest 1 -5 of 3\nbest 2 2 of 3\naccepted\n")
+    ∷ (printed nought bare is ascii "value 1 -3 of 1\nvalue 2 0 of 1\nbest 1 -3 of 1\nbest 2 0 of 1\naccepted\n")
+    ∷ (printed extreme large is ascii "value 1 -2250150948864000 of 68669157375\nvalue 2 2250082279706625 of 68669157375\nbest 1 -2250150948864000 of 68669157375\nbest 2 2250082279706625 of 68669157375\naccepted\n")
     -- "as `refusal 13`"
     ∷ (printed absentMinded [] is ascii "refusal 13\n")
     ∷ []
 
 listings-hold : AllHold listings
-unfolding doubled second losing first thirds Bounded.opened Bits.opened Game.opened Sequences.opened Rows.opened GameChecks.opened Checks.opened Plan.opened PlanChecks.opened Earnings.opened BestResponse.opened Verdict.opened Writing.opened Report.opened Starred.opened
-listings-hold = refl then refl then refl then refl then refl then refl then refl then end
+unfolding doubled second losing first thirds nought extreme large Bounded.opened Bits.opened Game.opened Sequences.opened Rows.opened GameChecks.opened Checks.opened Plan.opened PlanChecks.opened Earnings.opened BestResponse.opened Verdict.opened Writing.opened Report.opened Starred.opened
+listings-hold = refl then refl then refl then refl then refl then refl then refl then refl then refl then end
 
 -- what the definitions give for the games and plans above
 abbrev worked : List Case

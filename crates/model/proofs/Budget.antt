@@ -171,20 +171,14 @@ response-budget g R L p y small =
 -- Every sum that is computed for a pair of plans, best responses apart, stays within an i64.
 pub record Budget (g : Game) (q : PlanPair) : Type 0 where
   pub value : (p : Player) (k : ℕ) → k ≤ g .nodes → SFits w64 (sumWhere k (isLeaf g) (valueTerm g q p))
-  pub best : (p : Player) → SFits w64 (bestCount g p (q (other p)))
   pub scaled : (p : Player) → SFits w64 (scaledBest g q p)
   pub gains : (p : Player) → SFits w64 (gain g q p)
 
 module _ (g : Game) (R : GameRules g) (L : GameLimits g) (q : PlanPair) (F : (p : Player) → Fits g p (q p)) (M : (p : Player) → PlanLimits (q p)) where
   -- D0 × D1 × D2
-  base-bound : valueBase g q ≤ countLimit * (weightLimit * weightLimit)
+  pub base-bound : valueBase g q ≤ countLimit * (weightLimit * weightLimit)
   unfolding valueBase
   base-bound = NatL.mul-le-mul (L .root) (NatL.mul-le-mul (M one .denominator) (M two .denominator))
-
-  -- D0 × the other's D
-  against-bound : (p : Player) → againstBase g (q (other p)) ≤ countLimit * weightLimit
-  unfolding againstBase
-  against-bound p = NatL.mul-le-mul (L .root) (M (other p) .denominator)
 
   -- every prefix of the value's sum
   value-bound : (p : Player) (k : ℕ) → k ≤ g .nodes → natAbs (sumWhere k (isLeaf g) (valueTerm g q p)) ≤ 32768 * valueBase g q
@@ -207,7 +201,6 @@ module _ (g : Game) (R : GameRules g) (L : GameLimits g) (q : PlanPair) (F : (p 
   pub budget : Budget g q
   budget = record {
     value = λ p k l. sfits-abs w64 _ (omega (arith, value-bound p k l, base-bound));
-    best = λ p. sfits-abs w64 _ (omega (arith, best-bound g R L p (q (other p)) (F (other p)), against-bound p));
     scaled = λ p. sfits-abs w64 _ (omega (arith, scaled-bound p, base-bound));
     gains = λ p. sfits-abs w64 _ (omega (arith, gain-bound p, base-bound));
   }

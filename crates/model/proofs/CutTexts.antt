@@ -6,7 +6,8 @@ use mathlib.Core.List.{List, [], _∷_, _++_, flatMap}
 use native.Mathlib.Omega.{arith}
 use native.Mathlib.Decide.{decLt}
 use lib.Dec.{eqb, ltb}
-use lib.IntN.{ℤ}
+use lib.IntN.{ℤ, pos, natAbs}
+use lib.Signed.{ltZ}
 use lib.ListN.{length, getD, take, length-append, length-take, List·getD-append}
 use lib.Seq.{getD-take, getD-append-add}
 use borrow.Author.Tests.{eqb-true, eqb-false}
@@ -16,9 +17,9 @@ use Rattle.model.specs.Game.{Game, gameOf, Player, one, two, playerNumbe
 use Rattle.model.specs.Sequences.{Move}
 use Rattle.model.specs.Plan.{PlanPair, planPairOf}
 use Rattle.model.specs.Checks.{pairRefusal}
-use Rattle.model.specs.Earnings.{Fraction}
+use Rattle.model.specs.Earnings.{Fraction, _over_, valueBase}
 use Rattle.model.specs.Verdict.{Verdict, equilibrium, deviation, verdict}
-use Rattle.model.specs.Report.{ascii, digitsIn, decimal, signedDecimal, thousandths, lastThree, showsMinus, amount, line, moveLine, valueLine, bestLine, gainAmount, verdictLines, report, refusalLine, reportOf, printed}
+use Rattle.model.specs.Report.{ascii, digitsIn, decimal, signedDecimal, amount, line, moveLine, valueLine, bestLine, verdictLines, report, refusalLine, reportOf, printed}
 use Rattle.model.specs.CutTexts.{LineIsLast, WordIsTrue}
 
 -- not a c
@@ -76,10 +77,10 @@ unfolding decimal
 number n = digits (suc n) n
 
 shown : (a : Fraction) → Free (amount a)
-unfolding amount signedDecimal lastThree ascii free
+unfolding amount signedDecimal ascii free
 shown a =
-    let t = thousandths a in
-    (either (showsMinus a) (letters (ascii "-") refl) none and number (t / 1000)) and letters (ascii ".") refl and (digit (t / 100) and digit (t / 10) and digit t)
+    let z = a .numerator in
+    either (ltZ z (pos 0)) (letters (ascii "-") refl) none and number (natAbs z) and letters (ascii " of ") refl and number (a .denominator)
 
 feed : Free (ascii "\n")
 unfolding ascii free
@@ -102,7 +103,7 @@ refused k = letters (ascii "refusal ") refl and number k and feed
 -- the deviation
 deviates : (g : Game) (q : PlanPair) (p : Player) (z : ℤ) (moves : List Move) → Free (verdictLines g q (deviation p z moves))
 unfolding verdictLines ascii free
-deviates g q p z moves = amount-line p (gainAmount g q z) (letters (ascii "deviation player ") refl) (letters (ascii " gain ") refl) and move-lines moves
+deviates g q p z moves = amount-line p (z over valueBase g q) (letters (ascii "deviation player ") refl) (letters (ascii " gain ") refl) and move-lines moves
 
 -- the four lines before the verdict's
 values : Game → PlanPair → List ℕ

@@ -356,16 +356,16 @@ verdicts-hold : AllHold verdicts
 unfolding lent leaning second Verdict.call Bounded.opened Bits.opened Game.opened Sequences.opened GameChecks.opened Plan.opened PlanChecks.opened Earnings.opened BestResponse.opened Pair.opened Writing.opened Rows.opened Checks.opened Call.opened Starred.opened
 verdicts-hold = refl then refl then refl then refl then refl then refl then refl then refl then refl then refl then refl then end
 
--- the text for one leaf alone, D0 = 7, payoffs 5 and 6: 14, 14, 13, 13 and 9 bytes
+-- the text for one leaf alone, D0 = 7, payoffs 5 and 6: 16, 16, 15, 15 and 9 bytes
 abbrev text : List ℕ
-text = ascii "value 1 5.000\nvalue 2 6.000\nbest 1 5.000\nbest 2 6.000\naccepted\n"
+text = ascii "value 1 35 of 7\nvalue 2 42 of 7\nbest 1 35 of 7\nbest 2 42 of 7\naccepted\n"
 
 -- the two texts
 abbrev texts : List Case
 texts =
-    (reportCall single bare (lent 63) is outcome (given 63) (text, tt))
-    ∷ (reportCall single bare (lent 65) is outcome (given 63) (text ++ 263 ∷ 264 ∷ [], tt))
-    ∷ (reportCall single bare (lent 62) is outcome (refused 18) (lent 62, tt))
+    (reportCall single bare (lent 71) is outcome (given 71) (text, tt))
+    ∷ (reportCall single bare (lent 73) is outcome (given 71) (text ++ 271 ∷ 272 ∷ [], tt))
+    ∷ (reportCall single bare (lent 70) is outcome (refused 18) (lent 70, tt))
     ∷ (reportCall study bare [] is outcome (refused 14) ([], tt))
     ∷ (refusalLine 13 (lent 11) is outcome (given 11) (ascii "refusal 13\n", tt))
     ∷ (refusalLine 13 (lent 13) is outcome (given 11) (ascii "refusal 13\n" ++ 211 ∷ 212 ∷ [], tt))

@@ -1,21 +1,20 @@
--- Document 01, "The desk program": what it prints for a pair of files, as bytes.
+-- Document 01, "The desk program": what it prints for a pair of files, as bytes. Its amounts are those of document 02, W-202.
 use Prim.Native.Nat.{ℕ, zero, suc, _+_, _*_, _/_, _%_}
 use Prim.Native.String as String
 use Prim.Native.String.{String}
 use Prim.Native.Char.{code}
-use mathlib.Core.Bool.{Bool, _&&_, not, cond}
+use mathlib.Core.Bool.{cond}
 use mathlib.Core.List.{List, [], _∷_, _++_, flatMap}
 use lib.Dec.{eqb, ltb}
-use lib.IntN.{ℤ, natAbs}
-use lib.Signed.{nonNeg}
+use lib.IntN.{ℤ, pos, natAbs}
+use lib.Signed.{ltZ}
 use Rattle.model.specs.Limits.{countLimit}
-use Rattle.model.specs.Game.{Game, gameOf, Player, one, two, other, playerNumber}
+use Rattle.model.specs.Game.{Game, gameOf, Player, one, two, playerNumber}
 use Rattle.model.specs.Sequences.{Move}
 use Rattle.model.specs.Plan.{PlanPair, weightWidth, planPairOf}
 use Rattle.model.specs.Checks.{pairRefusal}
-use Rattle.model.specs.Earnings.{Fraction, value, valueBase}
-use Rattle.model.specs.BestResponse.{bestValue}
-use Rattle.model.specs.Verdict.{Verdict, equilibrium, deviation, verdict}
+use Rattle.model.specs.Earnings.{Fraction, _over_, value, valueBase}
+use Rattle.model.specs.Verdict.{Verdict, equilibrium, deviation, scaledBest, verdict}
 
 -- a text's bytes; all characters here are ASCII
 unfoldable pub ascii : String → List ℕ
@@ -33,25 +32,14 @@ digitsIn (suc steps) n =
 unfoldable pub decimal : ℕ → List ℕ
 decimal n = digitsIn (suc n) n
 
--- a signed number in base ten: `-` where `negative` says so, then the digits of its size
-unfoldable pub signedDecimal : (negative : Bool) → (size : ℕ) → List ℕ
-signedDecimal negative size = cond negative (ascii "-") [] ++ decimal size
+-- a signed number in base ten: `-` before one that is below 0, then the digits of its size
+unfoldable pub signedDecimal : ℤ → List ℕ
+signedDecimal z = cond (ltZ z (pos 0)) (ascii "-") [] ++ decimal (natAbs z)
 
--- an amount in thousandths "cut towards zero", as a size
-unfoldable pub thousandths : Fraction → ℕ
-thousandths a = natAbs (a .numerator) * 1000 / a .denominator
-
--- the last three digits of a size in thousandths
-unfoldable pub lastThree : ℕ → List ℕ
-lastThree t = (48 + t / 100 % 10) ∷ (48 + t / 10 % 10) ∷ (48 + t % 10) ∷ []
-
--- "`-` only where a shown digit is not 0"
-unfoldable pub showsMinus : Fraction → Bool
-showsMinus a = not (nonNeg (a .numerator)) && ltb 0 (thousandths a)
-
--- "Amounts are divided out and shown in thousandths cut towards zero"
+-- W-202 in place of document 01's thousandths: amounts are "printed undivided, as `gain 1 of 2`: first the exact count,
+-- then" what it is counted over
 unfoldable pub amount : Fraction → List ℕ
-amount a = signedDecimal (showsMinus a) (thousandths a / 1000) ++ ascii "." ++ lastThree (thousandths a)
+amount a = signedDecimal (a .numerator) ++ ascii " of " ++ decimal (a .denominator)
 
 -- "Every line ends with a line feed."
 unfoldable pub line : List ℕ → List ℕ
@@ -66,19 +54,15 @@ module _ (g : Game) (q : PlanPair) where
   unfoldable pub valueLine : Player → List ℕ
   valueLine p = line (ascii "value " ++ decimal (playerNumber p) ++ ascii " " ++ amount (value g q p))
 
-  -- the line of a player's best value
+  -- the line of a player's best value, "brought to that same base"
   unfoldable pub bestLine : Player → List ℕ
-  bestLine p = line (ascii "best " ++ decimal (playerNumber p) ++ ascii " " ++ amount (bestValue g p (q (other p))))
-
-  -- the gain over D0 × D1 × D2
-  unfoldable pub gainAmount : ℤ → Fraction
-  gainAmount z = record { numerator = z; denominator = valueBase g q }
+  bestLine p = line (ascii "best " ++ decimal (playerNumber p) ++ ascii " " ++ amount (scaledBest g q p over valueBase g q))
 
   -- "then `accepted`, or the deviation with its player, its gain and one line per set of that player, rising"
   unfoldable pub verdictLines : Verdict → List ℕ
   verdictLines equilibrium = line (ascii "accepted")
   verdictLines (deviation p z moves) =
-      line (ascii "deviation player " ++ decimal (playerNumber p) ++ ascii " gain " ++ amount (gainAmount z))
+      line (ascii "deviation player " ++ decimal (playerNumber p) ++ ascii " gain " ++ amount (z over valueBase g q))
       ++ flatMap moveLine moves
 
   -- "value 1, value 2, best 1, best 2, then .."
@@ -113,5 +97,5 @@ printed game plan =
 
 -- To unfold this is to unfold all of this file: for closed computation.
 unfoldable pub opened : Unit {0}
-unfolding ascii digitsIn decimal signedDecimal thousandths lastThree showsMinus amount line moveLine valueLine bestLine gainAmount verdictLines report refusalLine reportOf longestGame longestPlan printed flatMap
+unfolding ascii digitsIn decimal signedDecimal amount line moveLine valueLine bestLine verdictLines report refusalLine reportOf longestGame longestPlan printed flatMap
 opened = tt

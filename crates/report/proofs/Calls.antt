@@ -7,8 +7,8 @@ use native.Mathlib.Omega.{arith}
 use borrow.Author.Tests.{le-leb, ne-eqb}
 use lib.Dec.{eqb, leb}
 use lib.ListN.{length}
-use Rattle.model.specs.Game.{Game, gameOf, one, two}
-use Rattle.model.specs.Plan.{PlanPair, planPairOf}
+use Rattle.model.specs.Game.{gameOf, one, two}
+use Rattle.model.specs.Plan.{planPairOf}
 use Rattle.model.specs.PlanChecks.{files}
 use Rattle.model.specs.Checks.{pairRefusal, headerRows, treeRows, gameRows, planRows, pairRows, recordRows}
 use Rattle.model.specs.Rows.{of}
@@ -16,9 +16,8 @@ use Rattle.model.specs.Report as Text
 use Rattle.model.specs.Call.{given, refused, answerOf, afterCall, outcome, run}
 use Rattle.model.specs.calls.Report as Call
 use Rattle.model.specs.calls.RefusalLine as Line
-use Rattle.model.proofs.Budget.{budget, game-limits, plan-limits}
+use Rattle.model.proofs.Budget.{base-bound, budget, game-limits, plan-limits}
 use Rattle.model.proofs.Checks.{game-rules, plan-rules, pair-parts, pair-refusal, pair-named}
-use Rattle.model.proofs.Verdict.{files-mean}
 use Rattle.checks.specs.declared.Checked.{Checked}
 use Rattle.checks.specs.declared.Checked.the-variants.{Fine, Broken}
 use Rattle.checks.specs.Checked.{checkedOf, numberOf}
@@ -28,17 +27,16 @@ use Rattle.model.proofs.Rows.{refusal-below}
 use Rattle.checks.proofs.OneBuffer.{one-short, one-given}
 use Rattle.records.proofs.Widths.{few-sets}
 use Rattle.pair.specs.declared.PairHeader.{PairHeader}
-use Rattle.pair.proofs.Pairs.{PairOpened}
 use Rattle.form.specs.declared.Values.{Values}
 use Rattle.pair.proofs.PairDenominators.{d1-is, d2-is}
 use Rattle.judgement.specs.declared.Verdict.{Verdict}
 use Rattle.judgement.specs.Judgement.{judged}
 use Rattle.evaluation.proofs.EvaluatedPairs.{EvaluationOpened, weight-is, sets-are}
-use Rattle.verdict.proofs.VerdictAnswered.{judged-as}
+use Rattle.verdict.proofs.VerdictAnswered.{judge-asks, judged-as}
 use Rattle.text.specs.Text.{Put}
 use Rattle.text.proofs.Lengths.{refusal-line-length}
 use Rattle.report.specs.Giving.{giving}
-use Rattle.report.specs.Whole.{DenominatorsFit, most, pairReport, PairReady}
+use Rattle.report.specs.Whole.{most, pairReport, PairReady}
 use Rattle.report.proofs.Strategies.{strategy-lines}
 use Rattle.report.proofs.Agreement.{report-is}
 use Rattle.report.proofs.Longest.{report-most}
@@ -78,7 +76,9 @@ module _ (game plan : List ℕ) where
       let q = planPairOf g plan in
       let parts = pair-parts game plan .0 e in
       let rules = game-rules game (parts .0) in
-      report-most g (few-sets game) rules q (files-mean game plan (parts .0) (parts .1) .bases) (budget g rules (game-limits game) q (plan-rules game plan (parts .1) .fit) (plan-limits g plan))
+      let limits = game-limits game in
+      let fit = plan-rules game plan (parts .1) .fit in
+      report-most g (few-sets game) rules q (omega (arith, base-bound g rules limits q fit (plan-limits g plan))) (budget g rules limits q fit (plan-limits g plan))
 
   refusal-few : pairRefusal game plan < 2 ^ 64
   unfolding pairRows planRows gameRows headerRows recordRows treeRows of
@@ -102,38 +102,19 @@ module _ (game plan : List ℕ) where
       go zero e = call-gives Call.call pair-named (files game plan) (buffer, tt) (pair-fine game plan e) (rw (le-leb (length (Text.reportOf game plan)) (length buffer) (omega (arith, file-most e))))
       go (suc k) e = sym (report-refused buffer (sym e) (λ z. omega arith))
 
--- A pair that was read, with both players' weights by number.
-module _ (game plan : List ℕ) (h : PairHeader) (o : PairOpened game plan h) where
-  abbrev g : Game
-  g = gameOf game
-
-  abbrev q : PlanPair
-  q = planPairOf (gameOf game) plan
-
-  denominators-fit : DenominatorsFit (h .counts .«root_weight») (h .denominators .d1) (h .denominators .d2)
-  denominators-fit =
-      let parts = pair-parts game plan .0 (o .none) in
-      let file = plan-rules game plan (parts .1) in
-      rw (weight-is game plan h o, d1-is game plan h o, d2-is game plan h o)
-      (record {
-        root-some = game-rules game (o .game-none) .some-weight;
-        d1-some = file .denominators one;
-        d2-some = file .denominators two;
-        root-few = game-limits game .root;
-        d1-few = plan-limits g plan one .denominator;
-        d2-few = plan-limits g plan two .denominator;
-      })
-
 -- What was evaluated of a pair is ready to be reported.
-pub pair-ready : (game plan : List ℕ) (h : PairHeader) {v : Values} {numbers moves1 moves2 : List ℕ} → EvaluationOpened game plan h v numbers moves1 moves2 → PairReady numbers h moves1 moves2
+pub pair-ready : (game plan : List ℕ) (h : PairHeader) {v : Values} {numbers moves1 moves2 : List ℕ} → EvaluationOpened game plan h v numbers moves1 moves2 → PairReady numbers h v moves1 moves2
 pair-ready game plan h e =
     let o = e .opened in
     let same = sets-are game plan h o in
+    let gains = judge-asks game plan h o (e .values) in
     record {
       long = omega (arith, same, e .players .long);
       long1 = omega (arith, same, e .best1 .long);
       long2 = omega (arith, same, e .best2 .long);
-      denominators = denominators-fit game plan h o;
+      root-few = rw (weight-is game plan h o) (game-limits game .root);
+      gain1 = gains .0;
+      gain2 = gains .1;
     }
 
 -- The report on what was evaluated and judged is the files'.

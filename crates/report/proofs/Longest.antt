@@ -1,5 +1,5 @@
 -- The longest that a report can be.
-use Prim.Native.Nat.{ℕ, _+_, _*_, _≤_, _<_}
+use Prim.Native.Nat.{ℕ, _+_, _*_, _^_, _≤_, _<_}
 use mathlib.Core.Path.{ap}
 use mathlib.Core.Bool.{Bool, true, false, cond}
 use mathlib.Core.List.{_++_, flatMap}
@@ -13,12 +13,11 @@ use Rattle.algebra.proofs.Tests.{dec}
 use Rattle.model.specs.Limits.{countLimit}
 use Rattle.model.specs.Game.{Game, Player, one, two, other, owns, playerNumber}
 use Rattle.model.specs.Plan.{PlanPair, RealizationPlan}
-use Rattle.model.specs.Earnings.{valueBase, valueCount, value, againstBase, pureEarnings}
-use Rattle.model.specs.BestResponse.{worth, bestCount, bestValue, bestMove, bestResponse}
-use Rattle.model.specs.Verdict.{verdict, gain, deviationOf, equilibrium}
-use Rattle.model.specs.Report.{ascii, line, moveLine, valueLine, bestLine, gainAmount, verdictLines, report}
+use Rattle.model.specs.Earnings.{_over_, valueBase, valueCount, value}
+use Rattle.model.specs.BestResponse.{bestMove, bestResponse}
+use Rattle.model.specs.Verdict.{scaledBest, verdict, gain, deviationOf, equilibrium}
+use Rattle.model.specs.Report.{ascii, line, moveLine, valueLine, bestLine, verdictLines, report}
 use Rattle.model.specs.Rules.{GameRules}
-use Rattle.model.specs.Demand3.{BasesPositive}
 use Rattle.model.proofs.Budget.{Budget}
 use Rattle.text.specs.Lines.{amountLine}
 use Rattle.report.specs.Whole.{most}
@@ -42,35 +41,35 @@ module _ (g : Game) (few : g .sets ≤ countLimit) (R : GameRules g) where
       at-set h l (yes o) = omega (arith, ap length (response-own g p y h o), move-line-length h (bestMove g p y h) (omega arith) (omega (arith, R .set-moves h l .1, best-few g p y h)))
       at-set h l (no o) = omega (arith, ap length (response-other g p y h o))
 
-  module _ (q : PlanPair) (positive : BasesPositive g q) (B : Budget g q) where
-    value-most : (p : Player) → length (valueLine g q p) ≤ 33
+  module _ (q : PlanPair) (base : valueBase g q < 10 ^ 14) (B : Budget g q) where
+    value-most : (p : Player) → length (valueLine g q p) ≤ 47
     unfolding valueLine value amountLine valueCount ascii
-    value-most p = amount-line-length (ascii "value ") (playerNumber p) (ascii " ") (valueCount g q p) (valueBase g q) (number-few p) (positive .values) (B .value p (g .nodes) (omega arith))
+    value-most p = amount-line-length (ascii "value ") (playerNumber p) (ascii " ") (valueCount g q p) (valueBase g q) (number-few p) base (B .value p (g .nodes) (omega arith))
 
-    best-most : (p : Player) → length (bestLine g q p) ≤ 32
-    unfolding bestLine bestValue amountLine bestCount worth pureEarnings ascii
-    best-most p = amount-line-length (ascii "best ") (playerNumber p) (ascii " ") (bestCount g p (q (other p))) (againstBase g (q (other p))) (number-few p) (positive .pures p (λ h. 0)) (B .best p)
+    best-most : (p : Player) → length (bestLine g q p) ≤ 46
+    unfolding bestLine amountLine ascii
+    best-most p = amount-line-length (ascii "best ") (playerNumber p) (ascii " ") (scaledBest g q p) (valueBase g q) (number-few p) base (B .scaled p)
 
-    deviation-most : (p : Player) → length (verdictLines g q (deviationOf g q p)) ≤ 49 + 17 * countLimit
-    unfolding verdictLines deviationOf gainAmount amountLine ascii
+    deviation-most : (p : Player) → length (verdictLines g q (deviationOf g q p)) ≤ 63 + 17 * countLimit
+    unfolding verdictLines deviationOf amountLine ascii
     deviation-most p =
         let y = q (other p) in
         omega (
           arith,
-          length-append (amountLine (ascii "deviation player ") (playerNumber p) (ascii " gain ") (gainAmount g q (gain g q p))) (flatMap moveLine (bestResponse g p y)),
-          amount-line-length (ascii "deviation player ") (playerNumber p) (ascii " gain ") (gain g q p) (valueBase g q) (number-few p) (positive .values) (B .gains p),
+          length-append (amountLine (ascii "deviation player ") (playerNumber p) (ascii " gain ") (gain g q p over valueBase g q)) (flatMap moveLine (bestResponse g p y)),
+          amount-line-length (ascii "deviation player ") (playerNumber p) (ascii " gain ") (gain g q p) (valueBase g q) (number-few p) base (B .gains p),
           strategy-most p y,
         )
 
-    accepted-most : length (verdictLines g q equilibrium) ≤ 49 + 17 * countLimit
+    accepted-most : length (verdictLines g q equilibrium) ≤ 63 + 17 * countLimit
     unfolding verdictLines line ascii
     accepted-most = omega arith
 
-    verdict-most : length (verdictLines g q (verdict g q)) ≤ 49 + 17 * countLimit
+    verdict-most : length (verdictLines g q (verdict g q)) ≤ 63 + 17 * countLimit
     unfolding verdict
     verdict-most = go (ltZ (pos 0) (gain g q one)) (ltZ (pos 0) (gain g q two))
       where
-        go : (a b : Bool) → length (verdictLines g q (cond a (deviationOf g q one) (cond b (deviationOf g q two) equilibrium))) ≤ 49 + 17 * countLimit
+        go : (a b : Bool) → length (verdictLines g q (cond a (deviationOf g q one) (cond b (deviationOf g q two) equilibrium))) ≤ 63 + 17 * countLimit
         go true b = deviation-most one
         go false true = deviation-most two
         go false false = accepted-most

@@ -1,50 +1,30 @@
 -- The whole report, by the numbers that it shows.
-use Prim.Native.Nat.{ℕ, suc, _+_, _*_, _≤_, _<_}
+use Prim.Native.Nat.{ℕ, suc, _+_, _*_, _≤_}
 use mathlib.Core.Bool.{cond}
 use mathlib.Core.List.{List, [], _++_}
 use lib.Dec.{eqb}
+use lib.IntN.{ℤ, pos, _*ℤ_}
 use lib.ListN.{length}
 use Rattle.algebra.specs.Arrays.{item}
 use Rattle.algebra.specs.Bounded.{joinTo}
-use Rattle.model.specs.Earnings.{Fraction, baseOf}
+use Rattle.model.specs.Earnings.{Fraction, _over_, baseOf}
 use Rattle.model.specs.Report.{ascii, line, moveLine}
-use Rattle.model.specs.Limits.{weightLimit, countLimit}
+use Rattle.model.specs.Limits.{countLimit}
 use Rattle.pair.specs.declared.PairHeader.{PairHeader}
 use Rattle.form.specs.declared.Values.{Values}
+use Rattle.judgement.specs.Judgement.{GainFits}
 use Rattle.judgement.specs.Strategy.{isOwn}
 use Rattle.judgement.specs.declared.Verdict.{Verdict}
 use Rattle.judgement.specs.declared.Verdict.the-variants.{Equilibrium, Deviation}
-use Rattle.report.specs.declared.Bases.{Bases}
-use Rattle.text.specs.Lines.{BaseFits, fraction, amountLine}
+use Rattle.text.specs.Lines.{amountLine}
 
--- D0, D1 and D2 are above 0 and within their limits
-pub record DenominatorsFit (root d1 d2 : ℕ) : Type 0 where
-  pub root-some : 0 < root
-  pub d1-some : 0 < d1
-  pub d2-some : 0 < d2
-  pub root-few : root ≤ countLimit
-  pub d1-few : d1 ≤ weightLimit
-  pub d2-few : d2 ≤ weightLimit
+-- one line for player 1 and one for player 2, over the same base
+unfoldable pub bothLines : (label : List ℕ) → (count1 count2 : ℤ) → (base : ℕ) → List ℕ
+bothLines label count1 count2 base = amountLine label 1 (ascii " ") (count1 over base) ++ amountLine label 2 (ascii " ") (count2 over base)
 
--- values over D0 × D1 × D2, best values over D0 × the other's D
-unfoldable pub basesOf : (root d1 d2 : ℕ) → Bases
-basesOf root d1 d2 = record { values = baseOf root d1 d2; best1 = root * d2; best2 = root * d1 }
-
--- bases that amounts can be counted over
-pub record BasesFit (b : Bases) : Type 0 where
-  pub values : BaseFits (b .values)
-  pub best1 : BaseFits (b .best1)
-  pub best2 : BaseFits (b .best2)
-
--- one line for player 1 and one for player 2
-unfoldable pub bothLines : (label : List ℕ) → (amount1 amount2 : Fraction) → List ℕ
-bothLines label amount1 amount2 = amountLine label 1 (ascii " ") amount1 ++ amountLine label 2 (ascii " ") amount2
-
--- "value 1, value 2, best 1, best 2"
-unfoldable pub valuesText : Bases → Values → List ℕ
-valuesText b v =
-    bothLines (ascii "value ") (fraction (v .value1) (b .values)) (fraction (v .value2) (b .values))
-    ++ bothLines (ascii "best ") (fraction (v .best1) (b .best1)) (fraction (v .best2) (b .best2))
+-- "value 1, value 2, best 1, best 2": values are over D0 × D1 × D2, each best value is brought to that base by the player's own D
+unfoldable pub valuesText : Values → (d1 d2 base : ℕ) → List ℕ
+valuesText v d1 d2 base = bothLines (ascii "value ") (v .value1) (v .value2) base ++ bothLines (ascii "best ") (pos d1 *ℤ v .best1) (pos d2 *ℤ v .best2) base
 
 -- the line of set h, where it is the player's, with its move
 unfoldable pub setLine : (numbers : List ℕ) → (player : ℕ) → (moves : List ℕ) → (h : ℕ) → List ℕ
@@ -62,26 +42,28 @@ deviationText numbers sets player gain moves = amountLine (ascii "deviation play
 unfoldable pub verdictText : (numbers : List ℕ) → (sets base : ℕ) → Verdict → (moves1 moves2 : List ℕ) → List ℕ
 verdictText numbers sets base Equilibrium moves1 moves2 = line (ascii "accepted")
 verdictText numbers sets base (Deviation number gain) moves1 moves2 =
-    let first = deviationText numbers sets 0 (fraction gain base) moves1 in
-    let second = deviationText numbers sets 1 (fraction gain base) moves2 in
+    let first = deviationText numbers sets 0 (gain over base) moves1 in
+    let second = deviationText numbers sets 1 (gain over base) moves2 in
     cond (eqb number 1) first second
 
--- the whole report
-unfoldable pub reportText : (numbers : List ℕ) → (sets : ℕ) → Bases → Values → Verdict → (moves1 moves2 : List ℕ) → List ℕ
-reportText numbers sets b v verdict moves1 moves2 = valuesText b v ++ verdictText numbers sets (b .values) verdict moves1 moves2
+-- the whole report, by D0, D1 and D2
+unfoldable pub reportText : (numbers : List ℕ) → (sets root d1 d2 : ℕ) → Values → Verdict → (moves1 moves2 : List ℕ) → List ℕ
+reportText numbers sets root d1 d2 v verdict moves1 moves2 = valuesText v d1 d2 (baseOf root d1 d2) ++ verdictText numbers sets (baseOf root d1 d2) verdict moves1 moves2
 
--- No report has more bytes. An amount has at most 24: a sign, 19 digits, a point and three digits. With it the line of
--- a value has 33, that of a best value 32 and that of a gain 49; a set's line, with four digits and two, has 17.
+-- No report has more bytes. An amount has at most 38: a sign, 19 digits, " of ", and the 14 digits of 4,095 × 65,535 × 65,535.
+-- With it the line of a value has 47, that of a best value 46 and that of a gain 63; a set's line, with four digits and two, has 17.
 abbrev pub most : ℕ
-most = 2 * 33 + 2 * 32 + 49 + 17 * countLimit
+most = 2 * 47 + 2 * 46 + 63 + 17 * countLimit
 
 -- the report of a pair that was read from its files, by the players of the sets
 abbrev pub pairReport : (numbers : List ℕ) → PairHeader → Values → Verdict → (moves1 moves2 : List ℕ) → List ℕ
-pairReport numbers pair v verdict moves1 moves2 = reportText numbers (pair .counts .sets) (basesOf (pair .counts .«root_weight») (pair .denominators .d1) (pair .denominators .d2)) v verdict moves1 moves2
+pairReport numbers pair v verdict moves1 moves2 = reportText numbers (pair .counts .sets) (pair .counts .«root_weight») (pair .denominators .d1) (pair .denominators .d2) v verdict moves1 moves2
 
--- what `pairReport` needs: a player and two moves for every set of the game, and denominators that fit
-pub record PairReady (numbers : List ℕ) (pair : PairHeader) (moves1 moves2 : List ℕ) : Type 0 where
+-- what `pairReport` needs: a player and two moves for every set of the game, and numbers that fit
+pub record PairReady (numbers : List ℕ) (pair : PairHeader) (v : Values) (moves1 moves2 : List ℕ) : Type 0 where
   pub long : pair .counts .sets ≤ length numbers
   pub long1 : pair .counts .sets ≤ length moves1
   pub long2 : pair .counts .sets ≤ length moves2
-  pub denominators : DenominatorsFit (pair .counts .«root_weight») (pair .denominators .d1) (pair .denominators .d2)
+  pub root-few : pair .counts .«root_weight» ≤ countLimit
+  pub gain1 : GainFits (pair .denominators .d1) (v .best1) (v .value1)
+  pub gain2 : GainFits (pair .denominators .d2) (v .best2) (v .value2)

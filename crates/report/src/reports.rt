@@ -44,7 +44,7 @@ fn give_report(
     moves2: &[u16],
     out: &mut [u8],
 ) -> WriteAnswer
-    requires { ⌜ PairReady (now numbers) pair (now moves1) (now moves2) × (length (pairReport (now numbers) pair values verdict (now moves1) (now moves2)) ≤ most) ⌝ }
+    requires { ⌜ PairReady (now numbers) pair values (now moves1) (now moves2) × (length (pairReport (now numbers) pair values verdict (now moves1) (now moves2)) ≤ most) ⌝ }
     ensures { λ r. ⌜ outcome (writeAnswered r) (now (out .exit), tt) ≡ run giving (pairReport (now (numbers .entry)) pair values verdict (now (moves1 .entry)) (now (moves2 .entry))) (now (out .entry), tt) ⌝ }
 {
     let mut text = [0u8; MOST];

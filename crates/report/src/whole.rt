@@ -1,73 +1,58 @@
 // The whole report on a pair: both values, both best values, and the verdict.
 ghost use mathlib.Core.Path.{_≡_};
 ghost use Prim.Native.Nat.{_≤_, _<_};
+ghost use lib.IntN.{pos, _*ℤ_};
 ghost use lib.ListN.{length};
+ghost use mir.Syntax.{w64};
+ghost use mir.Val.{SFits};
+ghost use Rattle.model.specs.Earnings.{_over_};
+ghost use Rattle.model.specs.Limits.{weightLimit};
+ghost use Rattle.judgement.specs.Judgement.{GainFits};
 ghost use Rattle.text.specs.Text.{TextFits, Put};
-ghost use Rattle.text.specs.Lines.{BaseFits, fraction};
-ghost use Rattle.report.specs.Whole.{DenominatorsFit, BasesFit, basesOf, bothLines, valuesText, deviationText, verdictText, pairReport, PairReady};
-use super::Bases;
+ghost use Rattle.report.specs.Whole.{bothLines, valuesText, deviationText, verdictText, pairReport, PairReady};
 use super::strategy::put_strategy;
 use form::Values;
 use judgement::Verdict;
 use pair::PairHeader;
+use records::Denominators;
 use text::lines::put_accepted;
 use text::lines::put_amount_line;
 use verdict::verdicts::base;
 
-// What the amounts of a pair are counted over.
-fn bases(pair: PairHeader) -> Bases
-    requires { ⌜ DenominatorsFit (pair .counts .«root_weight») (pair .denominators .d1) (pair .denominators .d2) ⌝ }
-    ensures { λ r. ⌜ r ≡ basesOf (pair .counts .«root_weight») (pair .denominators .d1) (pair .denominators .d2) ⌝ }
+// A player's best value over D0 × D1 × D2: `best` is over D0 × the other's D, `denominator` is his own D.
+fn scaled_best(denominator: u64, best: i64) -> i64
+    requires { ⌜ (denominator ≤ weightLimit) × SFits w64 (pos denominator *ℤ best) ⌝ }
+    ensures { λ r. ⌜ r ≡ pos denominator *ℤ best ⌝ }
 {
-    let counts = pair.counts;
-    let denominators = pair.denominators;
-    Bases {
-        values: base(pair),
-        best1: counts.root_weight * denominators.d2,
-        best2: counts.root_weight * denominators.d1,
-    }
+    let scale = denominator as i64;
+    scale * best
 }
 
 // Puts the same line for player 1 and for player 2.
-fn put_both(
-    label: &[u8],
-    count1: i64,
-    base1: u64,
-    count2: i64,
-    base2: u64,
+fn put_both(label: &[u8], count1: i64, count2: i64, base: u64, out: &mut [u8], at: usize) -> usize
+    requires { ⌜ TextFits at (bothLines (now label) count1 count2 base) (now out) ⌝ }
+    ensures { λ r. ⌜ Put at (bothLines (now (label .entry)) count1 count2 base) (now (out .entry)) (now (out .exit)) r ⌝ }
+{
+    let past_first = put_amount_line(label, 1, b" ", count1, base, out, at);
+    put_amount_line(label, 2, b" ", count2, base, out, past_first)
+}
+
+// Puts values and best values, all of `base`.
+fn put_values(
+    values: Values,
+    denominators: Denominators,
+    base: u64,
     out: &mut [u8],
     at: usize,
 ) -> usize
-    requires { ⌜ BaseFits base1 × BaseFits base2 × TextFits at (bothLines (now label) (fraction count1 base1) (fraction count2 base2)) (now out) ⌝ }
-    ensures { λ r. ⌜ Put at (bothLines (now (label .entry)) (fraction count1 base1) (fraction count2 base2)) (now (out .entry)) (now (out .exit)) r ⌝ }
+    requires { ⌜ GainFits (denominators .d1) (values .best1) (values .value1) × GainFits (denominators .d2) (values .best2) (values .value2) ⌝ }
+    requires { ⌜ TextFits at (valuesText values (denominators .d1) (denominators .d2) base) (now out) ⌝ }
+    ensures { λ r. ⌜ Put at (valuesText values (denominators .d1) (denominators .d2) base) (now (out .entry)) (now (out .exit)) r ⌝ }
 {
-    let past_first = put_amount_line(label, 1, b" ", count1, base1, out, at);
-    put_amount_line(label, 2, b" ", count2, base2, out, past_first)
-}
-
-// Puts values and best values.
-fn put_values(values: Values, bases: Bases, out: &mut [u8], at: usize) -> usize
-    requires { ⌜ BasesFit bases × TextFits at (valuesText bases values) (now out) ⌝ }
-    ensures { λ r. ⌜ Put at (valuesText bases values) (now (out .entry)) (now (out .exit)) r ⌝ }
-{
-    let past_values = put_both(
-        b"value ",
-        values.value1,
-        bases.values,
-        values.value2,
-        bases.values,
-        out,
-        at,
-    );
-    put_both(
-        b"best ",
-        values.best1,
-        bases.best1,
-        values.best2,
-        bases.best2,
-        out,
-        past_values,
-    )
+    let past_values = put_both(b"value ", values.value1, values.value2, base, out, at);
+    let best1 = scaled_best(denominators.d1, values.best1);
+    let best2 = scaled_best(denominators.d2, values.best2);
+    put_both(b"best ", best1, best2, base, out, past_values)
 }
 
 // Puts the deviation of a player, given by his bit, with his strategy.
@@ -81,8 +66,8 @@ fn put_deviation(
     out: &mut [u8],
     at: usize,
 ) -> usize
-    requires { ⌜ (player < 2) × (sets ≤ length (now numbers)) × (sets ≤ length (now moves)) × BaseFits base × TextFits at (deviationText (now numbers) sets player (fraction gain base) (now moves)) (now out) ⌝ }
-    ensures { λ r. ⌜ Put at (deviationText (now (numbers .entry)) sets player (fraction gain base) (now (moves .entry))) (now (out .entry)) (now (out .exit)) r ⌝ }
+    requires { ⌜ (player < 2) × (sets ≤ length (now numbers)) × (sets ≤ length (now moves)) × TextFits at (deviationText (now numbers) sets player (gain over base) (now moves)) (now out) ⌝ }
+    ensures { λ r. ⌜ Put at (deviationText (now (numbers .entry)) sets player (gain over base) (now (moves .entry))) (now (out .entry)) (now (out .exit)) r ⌝ }
 {
     let past_gain = put_amount_line(
         b"deviation player ",
@@ -107,7 +92,7 @@ fn put_verdict(
     out: &mut [u8],
     at: usize,
 ) -> usize
-    requires { ⌜ (sets ≤ length (now numbers)) × (sets ≤ length (now moves1)) × (sets ≤ length (now moves2)) × BaseFits base × TextFits at (verdictText (now numbers) sets base verdict (now moves1) (now moves2)) (now out) ⌝ }
+    requires { ⌜ (sets ≤ length (now numbers)) × (sets ≤ length (now moves1)) × (sets ≤ length (now moves2)) × TextFits at (verdictText (now numbers) sets base verdict (now moves1) (now moves2)) (now out) ⌝ }
     ensures { λ r. ⌜ Put at (verdictText (now (numbers .entry)) sets base verdict (now (moves1 .entry)) (now (moves2 .entry))) (now (out .entry)) (now (out .exit)) r ⌝ }
 {
     let Verdict::Deviation {
@@ -133,17 +118,17 @@ pub fn write(
     moves2: &[u16],
     out: &mut [u8],
 ) -> usize
-    requires { ⌜ PairReady (now numbers) pair (now moves1) (now moves2) × TextFits 0 (pairReport (now numbers) pair values verdict (now moves1) (now moves2)) (now out) ⌝ }
+    requires { ⌜ PairReady (now numbers) pair values (now moves1) (now moves2) × TextFits 0 (pairReport (now numbers) pair values verdict (now moves1) (now moves2)) (now out) ⌝ }
     ensures { λ r. ⌜ Put 0 (pairReport (now (numbers .entry)) pair values verdict (now (moves1 .entry)) (now (moves2 .entry))) (now (out .entry)) (now (out .exit)) r ⌝ }
 {
     let counts = pair.counts;
-    let bases = bases(pair);
-    let past_values = put_values(values, bases, out, 0);
+    let base = base(pair);
+    let past_values = put_values(values, pair.denominators, base, out, 0);
     put_verdict(
         numbers,
         counts.sets,
         verdict,
-        bases.values,
+        base,
         moves1,
         moves2,
         out,

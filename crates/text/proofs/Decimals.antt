@@ -1,13 +1,15 @@
 -- Numbers in base ten: their digits one by one, and how many there are.
 use Prim.Native.Nat.{ℕ, zero, suc, _+_, _*_, _/_, _%_, _^_, _≤_, _<_}
 use mathlib.Core.Path.{_≡_, ap}
-use mathlib.Core.Bool.{Bool, true, false}
+use mathlib.Core.Bool.{Bool, true, false, cond}
 use mathlib.Core.List.{[], _∷_, _++_}
 use native.Mathlib.Omega.{arith}
 use native.Mathlib.Nat as NatL
 use native.Mathlib.Decide.{decLt}
 use borrow.Author.Tests.{lt-ltb, le-ltb}
+use lib.IntN.{ℤ, pos, natAbs}
 use lib.ListN.{length, length-append}
+use lib.Signed.{ltZ}
 use Rattle.model.specs.Report.{ascii, digitsIn, decimal, signedDecimal}
 
 -- more steps than there are digits change nothing
@@ -42,8 +44,23 @@ decimal-length (suc k) n l =
           omega (arith, ap length (decimal-more n (omega arith)), length-append (decimal (n / 10)) ((48 + n % 10) ∷ []), decimal-length k (n / 10) (omega arith))
     ]
 
--- and with a sign at most one more
-pub signed-length : (negative : Bool) (k n : ℕ) → n < 10 ^ suc k → length (signedDecimal negative n) ≤ 2 + k
+-- A signed number by its size.
+module _ (z : ℤ) {size : ℕ} (sized : size ≡ natAbs z) where
+  -- below 0 the sign stands first
+  pub signed-minus : ltZ z (pos 0) ≡ true → signedDecimal z ≡ (45 ∷ []) ++ decimal size
+  unfolding signedDecimal ascii
+  signed-minus t = rw (t, sized)
+
+  -- else the digits stand alone
+  pub signed-plain : ltZ z (pos 0) ≡ false → signedDecimal z ≡ decimal size
+  unfolding signedDecimal
+  signed-plain t = rw (t, sized)
+
+-- with a sign there is at most one more
+pub signed-length : (z : ℤ) (k : ℕ) → natAbs z < 10 ^ suc k → length (signedDecimal z) ≤ 2 + k
 unfolding signedDecimal ascii
-signed-length true k n l = omega (arith, length-append (ascii "-") (decimal n), decimal-length k n l)
-signed-length false k n l = omega (arith, decimal-length k n l)
+signed-length z k l = omega (arith, length-append (cond (ltZ z (pos 0)) (ascii "-") []) (decimal (natAbs z)), sign (ltZ z (pos 0)), decimal-length k (natAbs z) l)
+  where
+    sign : (b : Bool) → length (cond b (ascii "-") []) ≤ 1
+    sign true = omega arith
+    sign false = omega arith

@@ -7,8 +7,9 @@ use lib.IntN.{ℤ}
 use lib.ListN.{length, length-append}
 use mir.Syntax.{w64}
 use mir.Val.{SFits}
+use Rattle.model.specs.Earnings.{_over_}
 use Rattle.model.specs.Report.{ascii, decimal, amount, line, moveLine, refusalLine}
-use Rattle.text.specs.Lines.{fraction, amountLine}
+use Rattle.text.specs.Lines.{amountLine}
 use Rattle.text.proofs.Decimals.{decimal-length}
 use Rattle.text.proofs.Amounts.{size-few, amount-length}
 
@@ -17,11 +18,11 @@ line-length : (l : List ℕ) → length (line l) ≡ length l + 1
 unfolding line ascii
 line-length l = length-append l (ascii "\n")
 
--- a player has one digit, and the size of an i64 at most 19
-pub amount-line-length : (label : List ℕ) (player : ℕ) (between : List ℕ) (count : ℤ) (base : ℕ) → player < 10 → 0 < base → SFits w64 count → length (amountLine label player between (fraction count base)) ≤ length label + length between + 26
+-- a player has one digit, the size of an i64 at most 19, and D0 × D1 × D2 at most 14
+pub amount-line-length : (label : List ℕ) (player : ℕ) (between : List ℕ) (count : ℤ) (base : ℕ) → player < 10 → base < 10 ^ 14 → SFits w64 count → length (amountLine label player between (count over base)) ≤ length label + length between + 40
 unfolding amountLine
-amount-line-length label player between count base one some f =
-    let a = amount (fraction count base) in
+amount-line-length label player between count base one few f =
+    let a = amount (count over base) in
     omega (
       arith,
       line-length (label ++ decimal player ++ between ++ a),
@@ -29,7 +30,7 @@ amount-line-length label player between count base one some f =
       length-append (label ++ decimal player) between,
       length-append label (decimal player),
       decimal-length 0 player one,
-      amount-length count base some 18 (omega (arith, size-few count f)),
+      amount-length count base 18 13 (omega (arith, size-few count f)) few,
     )
 
 -- a set has at most four digits and a move two

@@ -1,12 +1,11 @@
 // Numbers in base ten. `put_decimal` is the one writer of them.
 ghost use mathlib.Core.List.{[], _∷_};
 ghost use Prim.Native.Nat.{_+_, _<_};
-ghost use Rattle.model.specs.Report.{decimal, signedDecimal};
+ghost use Rattle.model.specs.Report.{decimal};
 ghost use Rattle.text.specs.Text.{TextFits, Put};
-use super::put_text;
 
 // Puts one digit.
-pub fn put_digit(digit: u64, out: &mut [u8], at: usize) -> usize
+fn put_digit(digit: u64, out: &mut [u8], at: usize) -> usize
     requires { ⌜ (digit < 10) × TextFits at ((48 + digit) ∷ []) (now out) ⌝ }
     ensures { λ r. ⌜ Put at ((48 + digit) ∷ []) (now (out .entry)) (now (out .exit)) r ⌝ }
 {
@@ -24,16 +23,4 @@ pub fn put_decimal(n: u64, out: &mut [u8], at: usize) -> usize
     }
     let last = put_decimal(n / 10, out, at);
     put_digit(n % 10, out, last)
-}
-
-// Puts a number by its sign and size.
-pub fn put_signed(negative: bool, size: u64, out: &mut [u8], at: usize) -> usize
-    requires { ⌜ TextFits at (signedDecimal negative size) (now out) ⌝ }
-    ensures { λ r. ⌜ Put at (signedDecimal negative size) (now (out .entry)) (now (out .exit)) r ⌝ }
-{
-    if negative {
-        let digits = put_text(b"-", out, at);
-        return put_decimal(size, out, digits);
-    }
-    put_decimal(size, out, at)
 }

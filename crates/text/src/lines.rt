@@ -1,8 +1,9 @@
 // The report's lines.
 ghost use mathlib.Core.List.{_++_};
+ghost use Rattle.model.specs.Earnings.{_over_};
 ghost use Rattle.model.specs.Report.{ascii, decimal, line, moveLine, refusalLine};
 ghost use Rattle.text.specs.Text.{TextFits, Put};
-ghost use Rattle.text.specs.Lines.{BaseFits, fraction, amountLine};
+ghost use Rattle.text.specs.Lines.{amountLine};
 use super::amount::put_amount;
 use super::decimal::put_decimal;
 use super::put_text;
@@ -16,7 +17,7 @@ fn put_numbered(label: &[u8], number: u64, out: &mut [u8], at: usize) -> usize
     put_decimal(number, out, digits)
 }
 
-// Puts the line of an amount that is a player's: the label, the player, what stands between, and `count` over `base`.
+// Puts the line of an amount that is a player's: the label, the player, what stands between, and `count` of `base`.
 pub fn put_amount_line(
     label: &[u8],
     player_number: u64,
@@ -26,8 +27,8 @@ pub fn put_amount_line(
     out: &mut [u8],
     at: usize,
 ) -> usize
-    requires { ⌜ BaseFits base × TextFits at (amountLine (now label) «player_number» (now between) (fraction count base)) (now out) ⌝ }
-    ensures { λ r. ⌜ Put at (amountLine (now (label .entry)) «player_number» (now (between .entry)) (fraction count base)) (now (out .entry)) (now (out .exit)) r ⌝ }
+    requires { ⌜ TextFits at (amountLine (now label) «player_number» (now between) (count over base)) (now out) ⌝ }
+    ensures { λ r. ⌜ Put at (amountLine (now (label .entry)) «player_number» (now (between .entry)) (count over base)) (now (out .entry)) (now (out .exit)) r ⌝ }
 {
     let past_number = put_numbered(label, player_number, out, at);
     let past_between = put_text(between, out, past_number);

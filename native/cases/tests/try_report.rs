@@ -26,117 +26,187 @@ fn each_refused_pair_has_its_line() {
     }
 }
 
-/// As document 01 prints it.
+/// As document 02, W-202 prints it.
 #[test]
-fn plan_f_has_document_01s_listing() {
-    let wanted = "value 1 3.000
-value 2 3.000
-best 1 3.500
-best 2 3.000
-deviation player 1 gain 0.500
+fn plan_f_has_its_listing() {
+    let wanted = "value 1 6 of 2
+value 2 6 of 2
+best 1 7 of 2
+best 2 6 of 2
+deviation player 1 gain 1 of 2
 set 0 move 0
 set 2 move 0
 ";
     assert_eq!(listing("00-study-game-f"), wanted);
 }
 
-/// Worked by hand: value 1, value 2, best 1 and best 2 of pairs that are accepted.
-const ACCEPTED: [(&str, &str); 15] = [
-    ("study-game-q", "3.000 3.000 3.000 3.000"),
-    ("study-game-m", "4.000 2.666 4.000 2.666"),
-    ("one-leaf", "-1.000 1.000 -1.000 1.000"),
-    ("value-minus-1-of-2000", "0.000 0.000 0.000 0.000"),
-    ("value-minus-1-of-1001", "0.000 0.000 0.000 0.000"),
-    ("value-minus-1-of-1000", "-0.001 0.001 -0.001 0.001"),
-    ("value-minus-1-of-999", "-0.001 0.001 -0.001 0.001"),
-    ("value-2-of-1001", "0.001 -0.001 0.001 -0.001"),
-    ("value-2-of-1000", "0.002 -0.002 0.002 -0.002"),
-    ("value-1999-of-2000", "0.999 -0.999 0.999 -0.999"),
-    ("value-2001-of-2000", "1.000 -1.000 1.000 -1.000"),
-    ("value-1-of-100", "0.010 -0.010 0.010 -0.010"),
+/// Worked by hand: D0 × D1 × D2, and over it value 1, value 2, best 1 and best 2 of pairs that are
+/// accepted. D1 × D2 is 28,665 where the name gives a value.
+const ACCEPTED: [(&str, u64, [i64; 4]); 21] = [
+    ("study-game-q", 1, [3, 3, 3, 3]),
+    ("study-game-m", 9, [36, 24, 36, 24]),
+    ("one-leaf", 7, [-7, 7, -7, 7]),
+    ("value-0", 57_330, [0, 0, 0, 0]),
     (
-        "value-12345-and-678-thousandths",
-        "12345.678 -12345.678 12345.678 -12345.678",
+        "value-minus-1-of-4095",
+        117_383_175,
+        [-28_665, 28_665, -28_665, 28_665],
     ),
+    (
+        "value-2-of-1000",
+        28_665_000,
+        [57_330, -57_330, 57_330, -57_330],
+    ),
+    (
+        "value-1999-of-2000",
+        57_330_000,
+        [57_301_335, -57_301_335, 57_301_335, -57_301_335],
+    ),
+    (
+        "value-4-of-3",
+        85_995,
+        [114_660, -114_660, 114_660, -114_660],
+    ),
+    (
+        "value-12345678-of-1000",
+        28_665_000,
+        [
+            353_888_859_870,
+            -353_888_859_870,
+            353_888_859_870,
+            -353_888_859_870,
+        ],
+    ),
+    ("count-minus-1", 9, [-1, 1, -1, 1]),
+    ("count-9", 10, [9, -9, 9, -9]),
+    ("count-10", 10, [10, -10, 10, -10]),
+    ("count-99", 100, [99, -99, 99, -99]),
+    ("count-100", 100, [100, -100, 100, -100]),
+    (
+        "count-1000000",
+        1_000,
+        [1_000_000, -1_000_000, 1_000_000, -1_000_000],
+    ),
+    (
+        "count-1000001",
+        1_000,
+        [1_000_001, -1_000_001, 1_000_001, -1_000_001],
+    ),
+    ("minus-3-and-0", 1, [-3, 0, -3, 0]),
+    ("0-and-minus-3", 1, [0, -3, 0, -3]),
     (
         "lowest-and-highest-payoff",
-        "-32768.000 32767.000 -32768.000 32767.000",
+        7,
+        [-229_376, 229_369, -229_376, 229_369],
     ),
-    ("kuhn-poker", "-0.055 0.055 -0.055 0.055"),
+    (
+        "lowest-and-highest-payoff-of-4095",
+        68_669_157_375,
+        [
+            -2_250_150_948_864_000,
+            2_250_082_279_706_625,
+            -2_250_150_948_864_000,
+            2_250_082_279_706_625,
+        ],
+    ),
+    ("kuhn-poker", 108, [-6, 6, -6, 6]),
 ];
 
 /// The same of pairs that are not, with the deviation.
-const DEVIATIONS: [(&str, &str, &str); 7] = [
+const DEVIATIONS: [(&str, u64, [i64; 4], &str); 8] = [
     (
         "gain-of-65535",
-        "-32768.000 0.000 32767.000 0.000",
-        "deviation player 1 gain 65535.000\nset 0 move 1\n",
+        1,
+        [-32_768, 0, 32_767, 0],
+        "deviation player 1 gain 65535 of 1\nset 0 move 1\n",
     ),
     (
         "gain-of-65535-by-player-2",
-        "32767.000 -32768.000 32767.000 32767.000",
-        "deviation player 2 gain 65535.000\nset 1 move 1\n",
+        68_669_157_375,
+        [
+            2_250_082_279_706_625,
+            -2_250_150_948_864_000,
+            2_250_082_279_706_625,
+            2_250_082_279_706_625,
+        ],
+        "deviation player 2 gain 4500233228570625 of 68669157375\nset 1 move 1\n",
     ),
     (
         "gain-of-1-of-1000",
-        "0.999 0.000 1.000 0.000",
-        "deviation player 1 gain 0.001\nset 0 move 0\n",
+        1_000,
+        [999, 0, 1_000, 0],
+        "deviation player 1 gain 1 of 1000\nset 0 move 0\n",
     ),
     (
-        "gain-of-1-of-1001",
-        "0.999 0.000 1.000 0.000",
-        "deviation player 1 gain 0.000\nset 0 move 0\n",
+        "gain-of-1-of-9000",
+        9_000,
+        [2_999, 0, 3_000, 0],
+        "deviation player 1 gain 1 of 9000\nset 0 move 0\n",
+    ),
+    (
+        "gain-of-1-of-9000-by-player-2",
+        9_000,
+        [0, -6_001, 0, -6_000],
+        "deviation player 2 gain 1 of 9000\nset 0 move 0\n",
     ),
     (
         "smallest-gain",
-        "0.000 0.000 0.000 0.000",
-        "deviation player 1 gain 0.000\nset 1 move 0\n",
+        68_669_157_375,
+        [4_094, 0, 4_095, 0],
+        "deviation player 1 gain 1 of 68669157375\nset 1 move 0\n",
     ),
     (
         "player-2-around-player-1",
-        "0.000 -4.000 0.000 2.000",
-        "deviation player 2 gain 6.000\nset 0 move 0\nset 2 move 1\n",
+        3,
+        [0, -12, 0, 6],
+        "deviation player 2 gain 18 of 3\nset 0 move 0\nset 2 move 1\n",
     ),
     (
         "both-gain-player-2-more",
-        "0.000 0.000 0.500 2.500",
-        "deviation player 1 gain 0.500\nset 0 move 1\n",
+        2,
+        [0, 0, 1, 5],
+        "deviation player 1 gain 1 of 2\nset 0 move 1\n",
     ),
 ];
 
-fn check_listing(name: &str, amounts: &str, verdict: &str) {
+fn check_listing(name: &str, base: u64, counts: [i64; 4], verdict: &str) {
     let headings = ["value 1", "value 2", "best 1", "best 2"];
-    let amounts = headings.iter().zip(amounts.split(' '));
-    let lines: String = amounts
-        .map(|(of, amount)| format!("{of} {amount}\n"))
+    let lines = headings.iter().zip(counts);
+    let lines: String = lines
+        .map(|(of, count)| format!("{of} {count} of {base}\n"))
         .collect();
     assert_eq!(listing(&format!("00-{name}")), lines + verdict, "{name}");
 }
 
 #[test]
 fn accepted_pairs_have_these_amounts() {
-    for (name, amounts) in ACCEPTED {
-        check_listing(name, amounts, "accepted\n");
+    for (name, base, counts) in ACCEPTED {
+        check_listing(name, base, counts, "accepted\n");
     }
 }
 
 #[test]
 fn deviations_have_these_amounts() {
-    for (name, amounts, deviation) in DEVIATIONS {
-        check_listing(name, amounts, deviation);
+    for (name, base, counts, deviation) in DEVIATIONS {
+        check_listing(name, base, counts, deviation);
     }
 }
 
 /// 4,078 sets: 10, 90, 900 and 3,078 of 1 to 4 digits, each on a line of 12 characters beside
-/// its number; one move has two digits. The amounts are as long as they get.
+/// its number; one move has two digits. The base has 11 digits, the gain 16 and best 1, with its
+/// sign, as many; the other amounts have 17.
 #[test]
-fn the_longest_listing_has_64247_bytes() {
+fn the_longest_listing_has_64356_bytes() {
     let lines = 4_078 * 12 + 10 + 90 * 2 + 900 * 3 + 3_078 * 4 + 1;
-    let amounts = 2 * 19 + 2 * 18 + 34;
+    let base = " of ".len() + 11 + "\n".len();
+    let values = 2 * ("value 1 ".len() + 17 + base);
+    let best = 2 * ("best 1 ".len() + base) + 16 + 17;
+    let gain = "deviation player 1 gain ".len() + 16 + base;
     let longest = listing("00-longest-listing");
-    assert_eq!(longest.len(), lines + amounts);
-    assert_eq!(longest.len(), 64_247);
-    assert!(longest.contains("gain 22768.000\nset 0 move 16\nset 1 move 0\n"));
+    assert_eq!(longest.len(), lines + values + best + gain);
+    assert_eq!(longest.len(), 64_356);
+    let gain = "gain 1563459375114000 of 68669157375\nset 0 move 16\nset 1 move 0\n";
+    assert!(longest.contains(gain));
     assert!(longest.ends_with("set 4077 move 0\n"));
 }
 

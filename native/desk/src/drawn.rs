@@ -1,6 +1,7 @@
 //! Pairs to run a program on: at and near equilibria, arbitrary ones, and damaged ones. Each has
 //! a play sheet of the game.
 
+use crate::listing::{amount, Amount};
 use crate::samples::Pair;
 use crate::Refusal;
 use generator::aim::{aim_at_game, aim_at_plan};
@@ -127,8 +128,8 @@ pub struct Met {
     pub refusals: [usize; 17],
     pub accepted: usize,
     pub deviations: [usize; 2],
-    /// Deviations whose gain is shown as 0.
-    pub unseen_gains: usize,
+    /// Deviations whose gain is below a thousandth.
+    pub small_gains: usize,
 }
 
 impl Met {
@@ -144,6 +145,12 @@ impl Met {
         for (player, met) in (1..).zip(&mut self.deviations) {
             *met += usize::from(printed.contains(&format!("\ndeviation player {player} ")));
         }
-        self.unseen_gains += usize::from(printed.contains(" gain 0.000\n"));
+        let gain = amount(printed, "deviation player ");
+        self.small_gains += usize::from(gain.is_some_and(|gain| is_small(&gain)));
     }
+}
+
+/// Below a thousandth of a payoff point.
+fn is_small(amount: &Amount) -> bool {
+    i128::from(amount.count) * 1_000 < i128::from(amount.base)
 }

@@ -104,7 +104,7 @@ extern "C" {
     ) -> u64;
 
     /// What the desk program prints for two files that are not sent back, and how many bytes it
-    /// has. 69,794 bytes are always enough.
+    /// has. 69,864 bytes are always enough.
     pub fn desk_report(
         game: *const u8,
         game_len: usize,

@@ -7,6 +7,7 @@ pub mod drawn;
 pub mod every_export;
 pub mod expected;
 pub mod form;
+pub mod listing;
 pub mod plain;
 pub mod program;
 pub mod report;

@@ -77,14 +77,14 @@ fn compare_unreadable(put: impl Fn(&Path)) {
     assert_eq!(folder.printed().unwrap(), "refusal 14\n");
 }
 
-/// As document 01 prints it.
+/// As document 02, W-202 prints it.
 #[test]
-fn plan_f_has_document_01s_listing() {
-    let wanted = "value 1 3.000
-value 2 3.000
-best 1 3.500
-best 2 3.000
-deviation player 1 gain 0.500
+fn plan_f_has_its_listing() {
+    let wanted = "value 1 6 of 2
+value 2 6 of 2
+best 1 7 of 2
+best 2 6 of 2
+deviation player 1 gain 1 of 2
 set 0 move 0
 set 2 move 0
 ";
@@ -266,5 +266,5 @@ fn drawn_pairs_are_judged() {
     assert!(met.refusals[0] > PAIRS / 3, "{met:?}");
     assert!(met.accepted > 100, "{met:?}");
     assert!(met.deviations.iter().all(|&count| count > 100), "{met:?}");
-    assert!(met.unseen_gains > 10, "{met:?}");
+    assert!(met.small_gains > 10, "{met:?}");
 }

@@ -1,6 +1,7 @@
 //! The proved library's reports and refusal lines, against the independent implementation.
 
 use desk::drawn::{draw, Met};
+use desk::listing::{amount, Amount};
 use desk::report::{refusal_line, report};
 use desk::{expected, Output, Refusal};
 use generator::large::{most_nodes, most_sets, most_sets_of_one};
@@ -13,7 +14,7 @@ use std::thread;
 const STACK: usize = 2 << 20;
 
 /// How many drawn pairs are tried.
-const PAIRS: usize = 1_200;
+const PAIRS: usize = 10_000;
 
 /// A call with a buffer of this length must give this, and touch nothing past it.
 fn compare_room(
@@ -40,6 +41,25 @@ fn compare_room(
     assert!(out == after, "room {room}");
 }
 
+/// By the text alone: all amounts have one base, no best value is below its value, and what lies
+/// between the two of the first player who can gain is his gain.
+fn check_amounts(text: &str) {
+    let base = amount(text, "value 1 ").unwrap().base;
+    let gains = [1, 2].map(|player| {
+        let [value, best] =
+            ["value", "best"].map(|label| amount(text, &format!("{label} {player} ")).unwrap());
+        assert_eq!([value.base, best.base], [base; 2], "{text}");
+        best.count - value.count
+    });
+    assert!(gains.iter().all(|&gain| gain >= 0), "{text}");
+    let Some((player, count)) = (1..).zip(gains).find(|&(_, gain)| gain > 0) else {
+        assert!(text.ends_with("\naccepted\n"), "{text}");
+        return;
+    };
+    let shown = amount(text, &format!("deviation player {player} gain "));
+    assert_eq!(shown, Some(Amount { count, base }), "{text}");
+}
+
 /// A buffer that is one byte short, one that is exactly long enough, and such as are so much
 /// longer. Gives what the desk program prints.
 fn compare(game: &[u8], plan: &[u8], longer: &[usize]) -> String {
@@ -52,7 +72,11 @@ fn compare(game: &[u8], plan: &[u8], longer: &[usize]) -> String {
         compare_room(call, &wanted, length + more);
     }
     match wanted {
-        Ok(text) => String::from_utf8(text).unwrap(),
+        Ok(text) => {
+            let text = String::from_utf8(text).unwrap();
+            check_amounts(&text);
+            text
+        }
         Err(refusal) => reference::report::refusal_line(refusal.into()),
     }
 }
@@ -69,7 +93,7 @@ fn reports_on_drawn_pairs_agree() {
     assert!(met.refusals.iter().all(|&count| count > 3), "{met:?}");
     assert!(met.accepted > 100, "{met:?}");
     assert!(met.deviations.iter().all(|&count| count > 50), "{met:?}");
-    assert!(met.unseen_gains > 10, "{met:?}");
+    assert!(met.small_gains > 100, "{met:?}");
 }
 
 /// Games of 4,095 nodes, the longest listing among them, in a thread of 2 MiB.

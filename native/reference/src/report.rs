@@ -24,12 +24,11 @@ fn lines(game_file: &[u8], plan_file: &[u8]) -> Result<Vec<String>, Refusal> {
     let plan = check_plan(&game, plan_file)?;
     let mut lines = Vec::new();
     for player in Player::BOTH {
-        let value = amount(value_count(&plan, player), plan.value_base());
+        let value = amount(&plan, value_count(&plan, player));
         lines.push(format!("value {} {value}", name(player)));
     }
     for player in Player::BOTH {
-        let best = best_response(&plan, player).count();
-        let best = amount(best, base_against(&plan, player));
+        let best = amount(&plan, best_count(&plan, player));
         lines.push(format!("best {} {best}", name(player)));
     }
     match verdict(&plan) {
@@ -41,7 +40,7 @@ fn lines(game_file: &[u8], plan_file: &[u8]) -> Result<Vec<String>, Refusal> {
 
 fn deviation_lines(plan: &Plan, deviation: &Deviation) -> Vec<String> {
     let player = name(deviation.player);
-    let gain = amount(deviation.gain, plan.value_base());
+    let gain = amount(plan, deviation.gain);
     let mut lines = vec![format!("deviation player {player} gain {gain}")];
     for choice in &deviation.moves {
         lines.push(format!("set {} move {}", choice.set, choice.number));
@@ -53,20 +52,12 @@ fn name(player: Player) -> usize {
     player.index() + 1
 }
 
-/// D0 × the other's D.
-fn base_against(plan: &Plan, player: Player) -> u64 {
-    plan.game().root_weight() * plan.denominator(player.other())
+/// The best value, which is counted over D0 × the other's D, brought to D0 × D1 × D2.
+fn best_count(plan: &Plan, player: Player) -> i128 {
+    best_response(plan, player).count() * i128::from(plan.denominator(player))
 }
 
-/// `count` over `base` in thousandths cut towards zero, with a sign only where
-/// a shown digit is not 0.
-fn amount(count: i128, base: u64) -> String {
-    let thousandths = count.unsigned_abs() * 1_000 / u128::from(base);
-    let sign = if count < 0 && thousandths > 0 {
-        "-"
-    } else {
-        ""
-    };
-    let (whole, rest) = (thousandths / 1_000, thousandths % 1_000);
-    format!("{sign}{whole}.{rest:03}")
+/// The exact count, then D0 × D1 × D2, as document 02, W-202 has it.
+fn amount(plan: &Plan, count: i128) -> String {
+    format!("{count} of {}", plan.value_base())
 }

@@ -14,39 +14,51 @@ fn lottery(entries: &[(u64, [i64; 2])]) -> Vec<u8> {
     tables.bytes().unwrap()
 }
 
-fn plan_without_moves() -> Vec<u8> {
+fn plan_without_moves([d1, d2]: [u64; 2]) -> Vec<u8> {
     let pair = PlanWeights {
-        weights: [vec![4_095], vec![1]],
+        weights: [vec![d1], vec![d2]],
     };
     pair.bytes().unwrap()
 }
 
 /// The two amounts that a lottery shows, as values and as best values.
-fn assert_shown(entries: &[(u64, [i64; 2])], one: &str, two: &str) {
+fn assert_shown(entries: &[(u64, [i64; 2])], denominators: [u64; 2], one: &str, two: &str) {
     let expected = format!("value 1 {one}\nvalue 2 {two}\nbest 1 {one}\nbest 2 {two}\naccepted\n");
-    assert_eq!(report(&lottery(entries), &plan_without_moves()), expected);
+    let plan = plan_without_moves(denominators);
+    assert_eq!(report(&lottery(entries), &plan), expected);
 }
 
 #[test]
-fn amounts_are_cut_towards_zero() {
-    assert_shown(&[(2, [2, -2]), (1, [0, 0])], "1.333", "-1.333");
-    assert_shown(&[(1_999, [1, -1]), (1, [0, 0])], "0.999", "-0.999");
-    assert_shown(&[(1, [1, -1]), (999, [0, 0])], "0.001", "-0.001");
-    assert_shown(&[(1, [100, -100]), (6, [0, 0])], "14.285", "-14.285");
+fn amounts_are_neither_divided_nor_reduced() {
+    let entries = [(2, [2, -2]), (1, [0, 0])];
+    assert_shown(&entries, [1, 1], "4 of 3", "-4 of 3");
+    assert_shown(&entries, [2, 1], "8 of 6", "-8 of 6");
+    assert_shown(&entries, [1, 5], "20 of 15", "-20 of 15");
+    assert_shown(&entries, [4_095, 2], "32760 of 24570", "-32760 of 24570");
+    assert_shown(&[(4, [6, 3])], [1, 1], "24 of 4", "12 of 4");
 }
 
 #[test]
-fn a_sign_stands_only_before_a_digit_that_is_not_0() {
-    assert_shown(&[(1, [1, -1]), (1_000, [0, 0])], "0.000", "0.000");
-    assert_shown(&[(1, [-1, 1]), (4_094, [0, 0])], "0.000", "0.000");
-    assert_shown(&[(4, [-1, 1]), (4_091, [0, 0])], "0.000", "0.000");
-    assert_shown(&[(5, [-1, 1]), (4_090, [0, 0])], "-0.001", "0.001");
-    assert_shown(&[(1, [0, 0]), (1, [0, 0])], "0.000", "0.000");
+fn a_sign_stands_before_an_amount_below_0_alone() {
+    assert_shown(&[(1, [-3, 0])], [1, 1], "-3 of 1", "0 of 1");
+    assert_shown(&[(1, [0, -3])], [1, 1], "0 of 1", "-3 of 1");
+    assert_shown(&[(1, [1, -1]), (1, [-1, 1])], [3, 3], "0 of 18", "0 of 18");
+    assert_shown(
+        &[(1, [-1, 1]), (4_094, [0, 0])],
+        [1, 1],
+        "-1 of 4095",
+        "1 of 4095",
+    );
 }
 
 #[test]
 fn extreme_payoffs_are_shown_in_full() {
-    assert_shown(&[(4_095, [-32_768, 32_767])], "-32768.000", "32767.000");
+    assert_shown(
+        &[(4_095, [-32_768, 32_767])],
+        [4_095, 4_095],
+        "-2250150948864000 of 68669157375",
+        "2250082279706625 of 68669157375",
+    );
 }
 
 #[test]
@@ -80,11 +92,11 @@ fn player_2_is_shown_with_every_set_rising() {
     let pair = PlanWeights {
         weights: [vec![1, 1, 0], vec![3, 3, 0, 0, 2, 1]],
     };
-    let expected = "value 1 0.000
-value 2 -4.000
-best 1 0.000
-best 2 2.000
-deviation player 2 gain 6.000
+    let expected = "value 1 0 of 3
+value 2 -12 of 3
+best 1 0 of 3
+best 2 6 of 3
+deviation player 2 gain 18 of 3
 set 0 move 0
 set 2 move 1
 ";
@@ -92,9 +104,9 @@ set 2 move 1
     assert_eq!(report(&game, &pair.bytes().unwrap()), expected);
 }
 
-/// One part in 4,095 × 4,095 is cut away in print, yet it is a gain.
+/// D0 = 4,095, D1 = 4,095: the smallest gain against a player who has no choice.
 #[test]
-fn a_gain_below_a_thousandth_is_a_deviation_all_the_same() {
+fn a_gain_of_one_part_is_shown() {
     let mut tables = GameTables::new(4_095);
     let set = tables.add_set(Player::One, 2);
     tables.add_chance(tables.root(), 2);
@@ -105,11 +117,11 @@ fn a_gain_below_a_thousandth_is_a_deviation_all_the_same() {
     let pair = PlanWeights {
         weights: [vec![4_095, 1, 4_094], vec![1]],
     };
-    let expected = "value 1 -1.000
-value 2 0.000
-best 1 -1.000
-best 2 0.000
-deviation player 1 gain 0.000
+    let expected = "value 1 -16769026 of 16769025
+value 2 0 of 16769025
+best 1 -16769025 of 16769025
+best 2 0 of 16769025
+deviation player 1 gain 1 of 16769025
 set 0 move 1
 ";
     let game = tables.bytes().unwrap();

@@ -83,7 +83,8 @@ fn the_family_of_kuhn_equilibria_is_accepted() {
 #[test]
 fn the_kuhn_listing_is_exact() {
     let plan = kuhn_equilibrium(2, 1).bytes().unwrap();
-    let expected = "value 1 -0.055\nvalue 2 0.055\nbest 1 -0.055\nbest 2 0.055\naccepted\n";
+    let expected =
+        "value 1 -6 of 108\nvalue 2 6 of 108\nbest 1 -6 of 108\nbest 2 6 of 108\naccepted\n";
     assert_eq!(report(&kuhn().bytes().unwrap(), &plan), expected);
 }
 

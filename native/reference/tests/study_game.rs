@@ -18,11 +18,11 @@ const NODE_8: [u8; 8] = [0x00, 0x10, 0x10, 0x01, 0x00, 0x06, 0x00, 0x01];
 const M_FILE: [u8; 13] = [
     0x10, 0x03, 0x00, 0x30, 0x00, 0x30, 0x00, 0x00, 0x10, 0x02, 0x00, 0x10, 0x02,
 ];
-const F_LISTING: &str = "value 1 3.000
-value 2 3.000
-best 1 3.500
-best 2 3.000
-deviation player 1 gain 0.500
+const F_LISTING: &str = "value 1 6 of 2
+value 2 6 of 2
+best 1 7 of 2
+best 2 6 of 2
+deviation player 1 gain 1 of 2
 set 0 move 0
 set 2 move 0
 ";
@@ -151,7 +151,7 @@ fn one_leaf_alone_is_accepted() {
     let plan_file = [0x10, 0x01, 0x00, 0x10];
     let plan = check_plan(&game, &plan_file).unwrap();
     assert_eq!(verdict(&plan), Verdict::Accepted);
-    let listing = "value 1 -5.000\nvalue 2 9.000\nbest 1 -5.000\nbest 2 9.000\naccepted\n";
+    let listing = "value 1 -35 of 7\nvalue 2 63 of 7\nbest 1 -35 of 7\nbest 2 63 of 7\naccepted\n";
     assert_eq!(report(&file, &plan_file), listing);
 }
 

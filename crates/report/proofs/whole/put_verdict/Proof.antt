@@ -32,19 +32,19 @@ returns-3 c =
 put-accepted-requires : tie.Need-put-accepted-requires
 put-accepted-requires c κs =
     let s = c .before .before .before .before .before .before .before in
-    rw (text-accepted (s .args .numbers .now) (s .args .sets) (s .args .base) (s .args .moves1 .now) (s .args .moves2 .now) (c .before .enum-told .given .1)) at (s .pre .4)
+    rw (text-accepted (s .args .numbers .now) (s .args .sets) (s .args .base) (s .args .moves1 .now) (s .args .moves2 .now) (c .before .enum-told .given .1)) at (s .pre .3)
 
 put-deviation-requires : tie.Need-put-deviation-requires
 put-deviation-requires c κs =
     let s = c .before .before .before .before .before .before .before .before .before in
     let text = text-first (s .args .numbers .now) (s .args .sets) (s .args .base) (s .args .moves1 .now) (s .args .moves2 .now) (c .before .before .before .verdict .given .1) (c .before .if1 .taken) in
-    rw (toZ-ofZ (gain-fits (c .before .before))) (omega arith, s .pre .0, s .pre .1, s .pre .3, rw text at (s .pre .4))
+    rw (toZ-ofZ (gain-fits (c .before .before))) (omega arith, s .pre .0, s .pre .1, rw text at (s .pre .3))
 
 put-deviation-requires-2 : tie.Need-put-deviation-requires-2
 put-deviation-requires-2 c κs =
     let s = c .before .before .before .before .before .before .before .before .before in
     let text = text-second (s .args .numbers .now) (s .args .sets) (s .args .base) (s .args .moves1 .now) (s .args .moves2 .now) (c .before .before .before .verdict .given .1) (c .before .if1 .left) in
-    rw (toZ-ofZ (gain-fits (c .before .before))) (omega arith, s .pre .0, s .pre .2, s .pre .3, rw text at (s .pre .4))
+    rw (toZ-ofZ (gain-fits (c .before .before))) (omega arith, s .pre .0, s .pre .2, rw text at (s .pre .3))
 
 pub put-verdict-spec : {M : Type 1} → statement M
 put-verdict-spec =

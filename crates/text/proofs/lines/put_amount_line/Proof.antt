@@ -3,9 +3,10 @@ use Prim.Native.Nat.{ℕ}
 use mathlib.Core.List.{List, [], _∷_, _++_}
 use borrow.Author.Needs.{needs}
 use mir.Facts.{toZ-ofZ}
+use Rattle.model.specs.Earnings.{_over_}
 use Rattle.model.specs.Report.{ascii, decimal, amount, line}
 use Rattle.text.specs.Text.{TextFits, Put}
-use Rattle.text.specs.Lines.{fraction, amountLine}
+use Rattle.text.specs.Lines.{amountLine}
 use Rattle.text.proofs.Puts.{room-first, room-then, put-then}
 use Rattle.text.proofs.lines.put_amount_line.Statement.{statement}
 use Rattle.text.proofs.lines.put_amount_line.Tie as tie
@@ -17,18 +18,18 @@ abbrev between-part : tie.Start → List ℕ
 between-part s = player-part s ++ s .args .between .now
 
 abbrev amount-part : tie.Start → List ℕ
-amount-part s = between-part s ++ amount (fraction (s .args .count) (s .args .base))
+amount-part s = between-part s ++ amount (s .args .count over s .args .base)
 
 -- room for the first parts, up to the whole line
 room-4 : (s : tie.Start) → TextFits (s .args .at) (amount-part s ++ (10 ∷ [])) (s .args .out .now)
 unfolding amountLine line ascii
-room-4 s = s .pre .1
+room-4 s = s .pre
 
 room-3 : (s : tie.Start) → TextFits (s .args .at) (amount-part s) (s .args .out .now)
 room-3 s = room-first (amount-part s) (10 ∷ []) (room-4 s)
 
 room-2 : (s : tie.Start) → TextFits (s .args .at) (between-part s) (s .args .out .now)
-room-2 s = room-first (between-part s) (amount (fraction (s .args .count) (s .args .base))) (room-3 s)
+room-2 s = room-first (between-part s) (amount (s .args .count over s .args .base)) (room-3 s)
 
 put-numbered-requires : tie.Need-put-numbered-requires
 put-numbered-requires c κs = let s = c .before .before .before .before in room-first (player-part s) (s .args .between .now) (room-2 s)
@@ -43,7 +44,7 @@ before-amount c = put-then (c .before .before .before .before .put-numbered .ens
 put-amount-requires : tie.Need-put-amount-requires
 put-amount-requires c κs =
     let s = c .before .before .before .before .before .before .before .before .before .before .before .before in
-    rw (toZ-ofZ (s .fits .count)) (s .pre .0, room-then (before-amount (c .before .before .before)) (amount (fraction (s .args .count) (s .args .base))) (room-3 s))
+    rw (toZ-ofZ (s .fits .count)) (room-then (before-amount (c .before .before .before)) (amount (s .args .count over s .args .base)) (room-3 s))
 
 -- and with it
 with-amount : (c : tie.After-put-amount) → Put (c .before .before .before .before .before .before .before .before .before .before .before .before .before .args .at) (amount-part (c .before .before .before .before .before .before .before .before .before .before .before .before .before)) (c .before .before .before .before .before .before .before .before .before .before .before .before .before .args .out .now) (c .put-amount .last .1 .1 .0) (c .put-amount .result)
