@@ -103,6 +103,16 @@ uint64_t desk_verdict(
     uint64_t *moves, size_t moves_len);
 
 /*
+ * Whether a pair passes at a tolerance, given in thousandths of a payoff point: `passes` is 1 where
+ * neither player has a strategy that gains more than `tolerance` / 1000, else 0.
+ */
+uint64_t desk_tolerates(
+    const uint8_t *game, size_t game_len,
+    const uint8_t *plan, size_t plan_len,
+    uint16_t tolerance,
+    uint64_t *passes);
+
+/*
  * What the desk program prints for two files that are not sent back, and how many bytes it has.
  * 69,864 bytes are always enough.
  */

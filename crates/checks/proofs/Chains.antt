@@ -2,16 +2,15 @@
 -- `Left whole rest a`: of the rows `whole`, those before `rest` have passed.
 use Prim.Native.Nat.{ℕ, zero, suc}
 use mathlib.Core.Path.{_≡_, refl, sym, ap, _∙_}
-use mathlib.Core.Bool.{Bool, true, false, not, _&&_, cond}
+use mathlib.Core.Bool.{Bool, true, false, _&&_}
 use mathlib.Core.List.{List, [], _∷_, _++_}
 use native.Mathlib.Omega.{arith}
-use lib.Dec.{T, eqb, eqb→eq, T-not}
-use mir.Facts.{and-yes}
-use Rattle.algebra.proofs.Tests.{eqb-make, cond-no}
-use Rattle.model.specs.Rows.{Row, Rows, row, of, refusal}
+use lib.Dec.{T, eqb, eqb→eq}
+use Rattle.algebra.proofs.Tests.{cond-no}
+use Rattle.model.specs.Rows.{Rows, row, of, refusal}
 use Rattle.model.specs.Call.{given, refused, Buffers, lengths, longEnough, afterAll, Lent, Call, Outcome, outcome, roomRows, allRows, callRefusal, run}
 use Rattle.model.proofs.Call.{all-kept}
-use Rattle.model.proofs.Rows.{named, named-of}
+use Rattle.model.proofs.Rows.{named, named-of, refusal-of, refusal-append}
 use Rattle.checks.specs.declared.Checked.{Checked}
 use Rattle.checks.specs.declared.Checked.the-variants.{Fine, Broken}
 use Rattle.checks.specs.Checked.{checkedOf, numberOf}
@@ -72,33 +71,17 @@ module _ {A : Type 0} where
   ends l = l .same
 
   -- several checks at once, made by a call below: none refuses
-  pub after : (sub rest : Rows A) (a : A) → T (named sub) → (n : ℕ) → refusal sub a ≡ n → refusal (sub ++ rest) a ≡ cond (eqb n 0) (refusal rest a) n
-  unfolding refusal
-  after [] rest a t n e = rw (← e)
-  after (r ∷ sub) rest a t n e =
-      let h = and-yes (not (eqb (r .number) 0)) (named sub) t in
-      go (r .test a) (λ z. T-not (eqb (r .number) 0) (h .0) (eqb-make (r .number) 0 z)) e (after sub rest a (h .1))
-    where
-      go : (b : Bool) → ¬ (r .number ≡ 0) → cond b (refusal sub a) (r .number) ≡ n → ((n : ℕ) → refusal sub a ≡ n → refusal (sub ++ rest) a ≡ cond (eqb n 0) (refusal rest a) n) → cond b (refusal (sub ++ rest) a) (r .number) ≡ cond (eqb n 0) (refusal rest a) n
-      go true m e later = later n e
-      go false m e later = e ∙ sym (cond-no (eqb n 0) (refusal rest a) n (λ t. m (e ∙ eqb→eq n 0 t)))
-
   pub passes-all : {whole : Rows A} (sub rest : Rows A) {a : A} → T (named sub) → Left whole (sub ++ rest) a → refusal sub a ≡ 0 → Left whole rest a
-  passes-all sub rest {a} t l e = record { same = l .same ∙ after sub rest a t 0 e }
+  passes-all sub rest {a} t l e = record { same = l .same ∙ refusal-append sub rest a t 0 e }
 
   -- or one of them does
   pub stops-in : {whole : Rows A} (sub rest : Rows A) {a : A} {n : ℕ} → T (named sub) → Left whole (sub ++ rest) a → Refuses sub a n → Refuses whole a n
   stops-in sub rest {a} {n} t l s = record {
-    is = l .same ∙ after sub rest a t n (s .is) ∙ cond-no (eqb n 0) (refusal rest a) n (λ z. s .some (eqb→eq n 0 z));
+    is = l .same ∙ refusal-append sub rest a t n (s .is) ∙ cond-no (eqb n 0) (refusal rest a) n (λ z. s .some (eqb→eq n 0 z));
     some = s .some;
   }
 
 -- checks of a part
-pub refusal-of : {A B : Type 0} (part : B → A) (rows : Rows A) (b : B) → refusal (of part rows) b ≡ refusal rows (part b)
-unfolding refusal of
-refusal-of part [] b = refl
-refusal-of part (r ∷ rows) b = ap (λ (k : ℕ). cond (r .test (part b)) k (r .number)) (refusal-of part rows b)
-
 pub refuses-of : {A B : Type 0} (part : B → A) (rows : Rows A) {b : B} {n : ℕ} → Refuses rows (part b) n → Refuses (of part rows) b n
 refuses-of part rows {b} s = record { is = refusal-of part rows b ∙ s .is; some = s .some }
 

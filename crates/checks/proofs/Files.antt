@@ -4,9 +4,9 @@ use mathlib.Core.Path.{_≡_, sym, _∙_}
 use mathlib.Core.List.{List, _++_}
 use Rattle.model.specs.Checks.{gameRefusal, gameRows, pairRows, pairRefusal}
 use Rattle.model.specs.Rows.{Rows, of, refusal}
-use Rattle.model.proofs.Rows.{named-of}
+use Rattle.model.proofs.Rows.{named-of, refusal-of}
 use Rattle.model.proofs.Checks.{game-refusal, game-named, pair-refusal}
-use Rattle.checks.proofs.Chains.{Left, Refuses, passes-all, stops-in, refusal-of, refuses-of}
+use Rattle.checks.proofs.Chains.{Left, Refuses, passes-all, stops-in, refuses-of}
 
 -- a game file's refusal
 pub game-refuses : {game : List ℕ} {n : ℕ} → n ≡ gameRefusal game → ¬ (n ≡ 0) → Refuses gameRows game n

@@ -1,7 +1,7 @@
 // The calls for Rust and C: numbers, slices and references alone.
 // A refusal is the result, 0 is none; what is lent for a result keeps what it held where the call refuses.
 // Each is one equation: what it returns, and what the lent numbers and buffers hold then, is the model's call, exported.
-// The second `ensures` of `desk_verdict` is demand 3.
+// A second `ensures` says what the outcome means: of `desk_verdict` it is demand 3, of the others what document 02 asks for.
 // The comment above an export is its comment in include/desk.h too, which native/derived_files writes.
 ghost use mathlib.Core.Path.{_≡_};
 ghost use Rattle.model.specs.Writing.{gameFields, fieldLists};
@@ -13,6 +13,7 @@ ghost use Rattle.model.specs.calls.PlanFields.{planFields, denominatorsIn};
 ghost use Rattle.model.specs.calls.PayoffTable.{payoffColumns};
 ghost use Rattle.model.specs.calls.Values.{pairValues, valuesCall};
 ghost use Rattle.model.specs.calls.Verdict.{numbers, verdictNumbers};
+ghost use Rattle.model.specs.calls.Tolerance.{tolerates, ToleranceMet, passesNumber, answerIn};
 ghost use Rattle.model.specs.calls.Report.{reportCall};
 ghost use Rattle.model.specs.calls.RefusalLine.{refusalLine};
 ghost use Rattle.model.specs.Plan.{weightWidth, largestDenominator};
@@ -137,6 +138,16 @@ pub extern "C" fn desk_verdict(
     ensures { λ r. ⌜ Demand3MetIn (now (game .entry)) (now (plan .entry)) (now (moves .entry)) (leaves r (numbers (now (player .exit)) (now (gain .exit)) (now (base .exit)) (now (count .exit))) (now (moves .exit), tt)) ⌝ }
 {
     exported_verdict::verdict(game, plan, player, gain, base, count, moves)
+}
+
+// Whether a pair passes at a tolerance, given in thousandths of a payoff point: `passes` is 1 where
+// neither player has a strategy that gains more than `tolerance` / 1000, else 0.
+#[no_mangle]
+pub extern "C" fn desk_tolerates(game: &[u8], plan: &[u8], tolerance: u16, passes: &mut u64) -> u64
+    ensures { λ r. ⌜ leaves r (now (passes .exit)) tt ≡ exported passesNumber (now (passes .entry)) (tolerates tolerance (now (game .entry)) (now (plan .entry))) ⌝ }
+    ensures { λ r. ⌜ ToleranceMet tolerance (now (game .entry)) (now (plan .entry)) (answerIn (leaves r (now (passes .exit)) tt)) ⌝ }
+{
+    exported_tolerance::tolerates(game, plan, tolerance, passes)
 }
 
 // What the desk program prints for two files that are not sent back, and how many bytes it has.

@@ -25,6 +25,8 @@ pub use rows::TableAnswer;
 pub use rows::payoff_rows;
 pub use table::payoff_table;
 pub use to_sheet::sheet_from_plan;
+pub use tolerance::ToleranceAnswer;
+pub use tolerance::tolerates;
 pub use verdict::ValuesAnswer;
 pub use verdict::VerdictAnswer;
 pub use verdict::values::values;

@@ -28,11 +28,11 @@ use Rattle.model.specs.calls.RereadGame as RereadGame
 use Rattle.model.proofs.Budget.{game-limits}
 use Rattle.model.proofs.GameTrips.{length-game, game-file-trip, game-fields-trip}
 use Rattle.model.proofs.Rules.{fields-fit-iff}
-use Rattle.model.proofs.Rows.{taken-iff}
+use Rattle.model.proofs.Rows.{taken-iff, refusal-of}
 use Rattle.model.proofs.Checks.{game-named, game-decided}
 use Rattle.model.proofs.calls.WriteGame.{fit-decided}
 use Rattle.model.proofs.calls.RereadGame.{reread-decided}
-use Rattle.checks.proofs.Chains.{Refuses, begin, passes-all, stops-in, refusal-of, call-refuses, same-run}
+use Rattle.checks.proofs.Chains.{Refuses, begin, passes-all, stops-in, call-refuses, same-run}
 use Rattle.columns.specs.Columns.{FieldsFit}
 use Rattle.records.proofs.Widths.{few-sets}
 use Rattle.checks.specs.declared.WriteAnswer.{WriteAnswer}

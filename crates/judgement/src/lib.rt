@@ -11,7 +11,7 @@ pub enum Verdict {
 }
 
 // A player's best value less his value, over D0 × D1 × D2: `best` is over D0 × the other's D, `denominator` is his own D.
-fn gain(denominator: u64, best: i64, value: i64) -> i64
+pub fn gain(denominator: u64, best: i64, value: i64) -> i64
     requires { ⌜ GainFits denominator best value ⌝ }
     ensures { λ r. ⌜ r ≡ gainOf denominator best value ⌝ }
 {

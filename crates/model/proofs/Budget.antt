@@ -194,7 +194,7 @@ module _ (g : Game) (R : GameRules g) (L : GameLimits g) (q : PlanPair) (F : (p 
       let y = q (other p) in
       omega (arith, abs-scale d (bestCount g p y), NatL.mul-le-mul-left d (best-bound g R L p y (F (other p))), NatL.mul-left-comm d 32768 (againstBase g y), ap (λ (k : ℕ). 32768 * k) (bases-agree g q p))
 
-  gain-bound : (p : Player) → natAbs (gain g q p) ≤ 2 * (32768 * valueBase g q)
+  pub gain-bound : (p : Player) → natAbs (gain g q p) ≤ 2 * (32768 * valueBase g q)
   unfolding gain valueCount
   gain-bound p = omega (arith, abs-sub (scaledBest g q p) (valueCount g q p), scaled-bound p, value-bound p (g .nodes) (omega arith))
 

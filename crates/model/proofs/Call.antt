@@ -5,14 +5,16 @@ use mathlib.Core.Bool.{true, false, cond}
 use mathlib.Core.List.{List, [], _∷_}
 use mathlib.Core.Logic.{_↔_}
 use native.Mathlib.Omega.{arith}
+use lib.Dec.{T, eqb, eqb→eq}
 use lib.ListN.{length, take, drop}
 use lib.Seq.{take-append-seam}
+use Rattle.algebra.proofs.Tests.{cond-no}
 use Rattle.model.proofs.Decisions.{Decides, itself-iff, leb-iff, and-iff}
 use Rattle.model.proofs.Reasons.{room-fails}
 use Rattle.model.specs.Rows.{of, refusal, First}
 use Rattle.model.specs.Call.{Answer, given, refused, Buffers, lengths, longEnough, RoomFor, afterCall, afterAll, Lent, Call, Outcome, outcome, answerOf, roomRows, allRows, callRefusal, run}
 use Rattle.model.specs.Demand1.{Clause}
-use Rattle.model.proofs.Rows.{Decided, Any, decided-one, pass-of, decided-of, refusal-after, decided-append, taken-iff, first-iff}
+use Rattle.model.proofs.Rows.{named, Decided, Any, decided-one, named-of, pass-of, decided-of, refusal-of, refusal-after, refusal-append, decided-append, taken-iff, first-iff}
 
 -- room for results
 room-iff : (results rooms : List ℕ) → Decides (longEnough results rooms) (RoomFor results rooms)
@@ -56,6 +58,23 @@ module _ {I R : Type 0} {shape : List (Type 0)} (c : Call I shape R) where
   -- what demand 1 says of the call
   pub clause : {Good : I → Type 0} → Decided Any (c .rows) Good → Clause c Good
   clause d = record { taken = takes d; other = refuses d }
+
+-- the first refusal, or where there is none the second
+abbrev pub orElse : (first second : ℕ) → ℕ
+orElse zero second = second
+orElse (suc k) second = suc k
+
+-- a call's refusal: that of the checks before 18, or else 18 where a buffer is too short
+pub call-refusal : {I R : Type 0} {shape : List (Type 0)} (c : Call I shape R) → T (named (c .rows)) → (i : I) (b : Buffers shape) → callRefusal c i b ≡ orElse (refusal (c .rows) i) (cond (longEnough (lengths shape (c .written i)) (lengths shape b)) 0 18)
+unfolding callRefusal allRows roomRows refusal
+call-refusal {I = I} {shape = shape} c some i b =
+    let input : Lent I (Buffers shape) → I = λ x. x .input in
+    let lent : Lent I (Buffers shape) = record { input = i; buffers = b } in
+    refusal-append (of input (c .rows)) (roomRows c) lent (named-of input (c .rows) some) (refusal (c .rows) i) (refusal-of input (c .rows) lent) ∙ go (refusal (c .rows) i) (refusal (roomRows c) lent)
+  where
+    go : (first second : ℕ) → cond (eqb first 0) second first ≡ orElse first second
+    go zero second = refl
+    go (suc k) second = cond-no (eqb (suc k) 0) second (suc k) (λ t. let z = eqb→eq (suc k) 0 t in omega arith)
 
 -- what a call leaves of a good input: 18 alone decides, by the result and what is written
 abbrev pub leftIn : {R : Type 0} {shape : List (Type 0)} → (result : R) → (results buffers : Buffers shape) → Outcome shape R

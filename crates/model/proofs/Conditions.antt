@@ -1,10 +1,11 @@
 -- Each condition of a statement is met by something: a condition that nothing meets would make its statement say nothing.
 -- Strategies, pure and mixed, are met in demand 3 itself (`StrategiesExist`).
-use Prim.Native.Nat.{ℕ, _/_, _*_, _+_, _<_}
-use mathlib.Core.Path.{refl, sym, subst}
+use Prim.Native.Nat.{ℕ, zero, suc, _/_, _*_, _+_, _<_}
+use mathlib.Core.Path.{_≡_, refl, sym, ap, subst}
 use mathlib.Core.List.{List, [], _∷_}
 use native.Mathlib.Omega.{arith}
 use native.Mathlib.Decide.{decLt}
+use borrow.Author.Tests.{le-leb}
 use lib.Dec.{lit<}
 use lib.ListN.{length, getD, List·getD-eq-default}
 use Rattle.algebra.specs.Bounded as Bounded
@@ -15,9 +16,10 @@ use Rattle.model.specs.Game as Game
 use Rattle.model.specs.Game.{Game, gameOf, Player, one, two}
 use Rattle.model.specs.Sequences as Sequences
 use Rattle.model.specs.Rows as Rows
+use Rattle.model.specs.Rows.{of, refusal}
 use Rattle.model.specs.Checks as Checks
 use Rattle.model.specs.GameChecks as GameChecks
-use Rattle.model.specs.Checks.{GameAccepted, PlanFits}
+use Rattle.model.specs.Checks.{GameAccepted, PlanFits, headerRows, recordRows, treeRows, gameRows, planRows, pairRows}
 use Rattle.model.specs.Plan as Plan
 use Rattle.model.specs.Plan.{planPairOf, planWeights, Fits}
 use Rattle.model.specs.PlanChecks as PlanChecks
@@ -28,8 +30,11 @@ use Rattle.model.specs.PlanOrder.{planFileOf}
 use Rattle.model.specs.Sheet as Sheet
 use Rattle.model.specs.Sheet.{Odds, MoveOf, Serves, smallestD, OverSmallest}
 use Rattle.model.specs.Rules.{GameRules, GameFile, PlanFile, GoodFiles, FieldsFit, PlanFieldsFit}
-use Rattle.model.specs.Call.{RoomFor}
+use Rattle.model.specs.Call.{RoomFor, refused, answerOf, run}
+use Rattle.model.specs.Exported.{refusalOf}
 use Rattle.model.specs.calls.Asked.{asked}
+use Rattle.model.specs.calls.Verdict as Verdict
+use Rattle.model.specs.calls.Verdict.{Stated, movesOf, verdictCall}
 use Rattle.model.specs.calls.WritePlan.{bytesOf}
 use Rattle.model.specs.calls.PlanFromSheet.{SheetFiles, sheetFiles, sheetRows, madePlan, GoodSheet}
 use Rattle.model.specs.calls.SheetFromPlan.{madeSheet}
@@ -40,8 +45,9 @@ use Rattle.model.specs.Starred.{study, planF}
 use Rattle.model.proofs.Bits.{numeral-fits, length-packed, packed-at}
 use Rattle.model.proofs.Spelling.{BitList}
 use Rattle.model.proofs.Rules.{fields-fit-iff, plan-fields-fit-iff}
-use Rattle.model.proofs.Checks.{game-file-iff, plan-file-iff}
-use Rattle.model.proofs.Rows.{taken-iff}
+use Rattle.model.proofs.Checks.{game-file-iff, plan-file-iff, pair-named}
+use Rattle.model.proofs.Rows.{taken-iff, refusal-below}
+use Rattle.model.proofs.Call.{orElse, call-refusal}
 use Rattle.model.proofs.Sheets.{smallest-positive, smallest-serves}
 use Rattle.model.proofs.calls.PlanFromSheet as PlanFromSheet
 use Rattle.model.proofs.calls.SheetFromPlan as SheetFromPlan
@@ -148,3 +154,15 @@ some-serves g R odds p = (smallestD g odds p, smallest-positive g odds R p, smal
 pub file-least : (f : SheetFiles) → GoodSheet 12 4095 f → let plan = madePlan 12 f in GoodFiles (files (f .game) plan) × IsBytes plan × ((p : Player) → OverSmallest (gameOf (f .game)) p (planPairOf (gameOf (f .game)) plan p))
 unfolding planFileOf
 file-least f good = ((good .0, PlanFromSheet.made-of 12 4095 (omega arith) f good .file), plan-bytes _ _ _, PlanFromSheet.made-least 12 4095 (omega arith) f good)
+
+-- The condition of `ToleranceMet`, that the verdict does not answer 18: of any two files, by a buffer as long as its moves
+pub room-serves : (game plan : List ℕ) → ¬ (verdictCall game plan (movesOf (files game plan)) .answer ≡ refused 18)
+unfolding Verdict.call run pairRows gameRows headerRows recordRows treeRows of planRows
+room-serves game plan =
+    let f = files game plan in
+    rw (call-refusal Verdict.call pair-named f (movesOf f, tt), le-leb (length (movesOf f)) (length (movesOf f)) (omega arith))
+    (go (Verdict.call .result f) (refusal pairRows f) (refusal-below pairRows f 17 (omega arith) tt))
+  where
+    go : (s : Stated) (k : ℕ) → k < 17 → ¬ (answerOf (orElse k 0) s ≡ refused 18)
+    go s zero l e = let z : _≡_ {A = ℕ} 0 18 = ap refusalOf e in omega arith
+    go s (suc k) l e = let z : _≡_ {A = ℕ} (suc k) 18 = ap refusalOf e in omega arith

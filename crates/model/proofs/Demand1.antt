@@ -20,6 +20,7 @@ use Rattle.model.proofs.calls.RereadGame as RereadGame
 use Rattle.model.proofs.calls.RereadPlan as RereadPlan
 use Rattle.model.proofs.calls.PlanFromSheet as PlanFromSheet
 use Rattle.model.proofs.calls.SheetFromPlan as SheetFromPlan
+use Rattle.model.proofs.calls.Tolerance as Tolerance
 
 pub demand1 : Demand1
 demand1 = record {
@@ -44,4 +45,5 @@ demand1 = record {
   reread-plan = RereadPlan.demand1;
   plan-from-sheet = PlanFromSheet.demand1;
   sheet-from-plan = SheetFromPlan.demand1;
+  tolerates = Tolerance.demand1;
 }

@@ -17,6 +17,7 @@ pub mod Earnings
 pub mod Exported
 pub mod FieldRules
 pub mod Flow
+pub mod Fractions
 pub mod GameRules
 pub mod GameTrips
 pub mod Numbers
@@ -45,6 +46,8 @@ pub mod Strategies
 pub mod Table
 pub mod TableRows
 pub mod Theorem266
+pub mod Thousandths
+pub mod Tolerance
 pub mod Tree
 pub mod Verdict
 pub mod WorkedCalls

@@ -1,12 +1,12 @@
 -- The general law of rows: from one fact a row to what demand 1 says.
 use Prim.Native.Nat.{ℕ, _<_}
-use mathlib.Core.Path.{_≡_, refl, sym, _∙_}
+use mathlib.Core.Path.{_≡_, refl, sym, ap, _∙_}
 use mathlib.Core.Logic.{_↔_, Iff·symm, Iff·trans, _⊎_, inl, inr}
 use mathlib.Core.Bool.{Bool, true, false, not, _&&_, cond}
 use mathlib.Core.List.{[], _∷_, _++_}
-use lib.Dec.{T, eqb, T-not, ltb, ltb→lt}
+use lib.Dec.{T, eqb, eqb→eq, T-not, ltb, ltb→lt}
 use mir.Facts.{and-yes, yes-and}
-use Rattle.algebra.proofs.Tests.{eqb-make, dec, cond-yes}
+use Rattle.algebra.proofs.Tests.{eqb-make, dec, cond-yes, cond-no}
 use Rattle.model.proofs.Decisions.{Decides, Fails}
 use Rattle.model.specs.Rows.{Row, Rows, row, of, refusal, First}
 
@@ -116,6 +116,11 @@ decided-of part rows d = record {
   good = λ b k. Iff·trans (d .good (part b) k) (pass-of part rows b);
 }
 
+pub refusal-of : {A B : Type 0} (part : B → A) (rows : Rows A) (b : B) → refusal (of part rows) b ≡ refusal rows (part b)
+unfolding refusal of
+refusal-of part [] b = refl
+refusal-of part (r ∷ rows) b = ap (λ (k : ℕ). cond (r .test (part b)) k (r .number)) (refusal-of part rows b)
+
 -- rows after rows: the later ones may rest on what the earlier ones have shown
 named-append : {A : Type 0} (c d : Rows A) → T (named c) → T (named d) → T (named (c ++ d))
 named-append [] d n m = m
@@ -136,6 +141,18 @@ pub refusal-after : {A : Type 0} (c d : Rows A) (a : A) → AllPass c a → refu
 unfolding refusal
 refusal-after [] d a p = refl
 refusal-after (r ∷ c) d a p = cond-yes (r .test a) (refusal (c ++ d) a) (r .number) (p .0) ∙ refusal-after c d a (p .1)
+
+-- rows in front of others: their refusal, or where there is none that of the others
+pub refusal-append : {A : Type 0} (c d : Rows A) (a : A) → T (named c) → (n : ℕ) → refusal c a ≡ n → refusal (c ++ d) a ≡ cond (eqb n 0) (refusal d a) n
+unfolding refusal
+refusal-append [] d a t n e = rw (← e)
+refusal-append (r ∷ c) d a t n e =
+    let h = and-yes (not (eqb (r .number) 0)) (named c) t in
+    go (r .test a) (λ z. T-not (eqb (r .number) 0) (h .0) (eqb-make (r .number) 0 z)) e (refusal-append c d a (h .1))
+  where
+    go : (b : Bool) → ¬ (r .number ≡ 0) → cond b (refusal c a) (r .number) ≡ n → ((n : ℕ) → refusal c a ≡ n → refusal (c ++ d) a ≡ cond (eqb n 0) (refusal d a) n) → cond b (refusal (c ++ d) a) (r .number) ≡ cond (eqb n 0) (refusal d a) n
+    go true m e later = later n e
+    go false m e later = e ∙ sym (cond-no (eqb n 0) (refusal d a) n (λ t. m (e ∙ eqb→eq n 0 t)))
 
 pub decided-append : {A : Type 0} {Before Good Fine : A → Type 0} (c d : Rows A) → Decided Before c Good → Decided (λ a. Before a × Good a) d Fine → Decided Before (c ++ d) (λ a. Good a × Fine a)
 decided-append {A = A} {Before = Before} {Good = Good} {Fine = Fine} c d first later = record {

@@ -10,7 +10,7 @@ use lib.Dec.{T, not-T}
 use lib.IntN.{ℤ, pos, _-ℤ_, _*ℤ_}
 use lib.Signed.{_≤ℤ_, _<ℤ_, ltZ, ltZ-yes, ltZ-no, clashℤ}
 use Rattle.algebra.proofs.Tests.{dec, cond-yes, cond-no}
-use Rattle.algebra.proofs.Integers.{le-to, to-le, sub-is, ≤ℤ-trans, nonneg-sub, scale-mono, scale-scale, scale-sub}
+use Rattle.algebra.proofs.Integers.{le-to, to-le, sub-is, ≤ℤ-trans, nonneg-sub, scale-mono}
 use Rattle.model.specs.Game.{Game, gameOf, Player, one, two, other, owns}
 use Rattle.model.specs.Sequences.{Move}
 use Rattle.model.specs.Plan.{PlanPair, planPairOf, Fits}
@@ -25,6 +25,7 @@ use Rattle.model.proofs.Duality.{plan-at-most}
 use Rattle.model.proofs.Strategies.{pure-at-most}
 use Rattle.model.proofs.BestResponses.{response-move, response-sets, best-move, lower-move, response-pure, response-earns, pure-most, mixed-most, response-attains}
 use Rattle.model.proofs.Earnings.{bases-agree, own-count, fraction-at-most, fraction-cancel}
+use Rattle.model.proofs.Fractions.{difference}
 
 -- what the verdict on a pair means
 pub record VerdictMeans (g : Game) (q : PlanPair) : Type 0 where
@@ -47,16 +48,6 @@ deviation≢equilibrium p z l e = let z : _≡_ {A = ℕ} 0 1 = ap code e in ome
     code : Verdict → ℕ
     code equilibrium = 1
     code (deviation p z l) = 0
-
--- the difference of a over E and c over d × E is (d × a - c) over d × E
-difference : (d E v : ℕ) (a c : ℤ) → d * E ≡ v → Equal (record { numerator = pos d *ℤ a -ℤ c; denominator = v }) (minus (record { numerator = a; denominator = E }) (record { numerator = c; denominator = d * E }))
-difference d E v a c e =
-    let same : pos (d * E) *ℤ a -ℤ pos E *ℤ c ≡ pos E *ℤ (pos d *ℤ a -ℤ c) =
-    ap (λ (z : ℤ). z -ℤ pos E *ℤ c) (sym (scale-scale E d a ∙ ap (λ (k : ℕ). pos k *ℤ a) (NatL.mul-comm E d))) ∙ sym (scale-sub E (pos d *ℤ a) c) in
-    sym
-    (ap (λ (z : ℤ). pos v *ℤ z) same
-    ∙ scale-scale v E (pos d *ℤ a -ℤ c)
-    ∙ ap (λ (k : ℕ). pos k *ℤ (pos d *ℤ a -ℤ c)) (NatL.mul-comm v E ∙ ap (λ (k : ℕ). E * k) (sym e)))
 
 -- a difference that is not above 0
 not-above-zero : (x v : ℤ) → ¬ T (ltZ (pos 0) (x -ℤ v)) → x ≤ℤ v

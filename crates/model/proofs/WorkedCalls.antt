@@ -2,7 +2,7 @@
 -- longer, and one entry short. What 18 is measured against is said here in numbers.
 use Prim.Native.Nat.{ℕ, _+_, pred}
 use mathlib.Core.Path.{refl}
-use mathlib.Core.Bool.{cond}
+use mathlib.Core.Bool.{true, false, cond}
 use mathlib.Core.List.{List, [], _∷_, _++_}
 use lib.Dec.{eqb}
 use lib.IntN.{ℤ, pos, negsuc}
@@ -18,15 +18,17 @@ use Rattle.model.specs.Table as Table
 use Rattle.model.specs.Earnings as Earnings
 use Rattle.model.specs.BestResponse as BestResponse
 use Rattle.model.specs.Verdict as Pair
+use Rattle.model.specs.Tolerance as Tolerated
+use Rattle.model.specs.Tolerance.{thousandthsUp}
 use Rattle.model.specs.Writing as Writing
-use Rattle.model.specs.Writing.{GameFields}
+use Rattle.model.specs.Writing.{GameFields, planBytes}
 use Rattle.model.specs.Report as Text
 use Rattle.model.specs.Report.{ascii}
 use Rattle.model.specs.Rows as Rows
 use Rattle.model.specs.Checks as Checks
 use Rattle.model.specs.Call as Call
 use Rattle.model.specs.Call.{Buffers, given, refused, outcome}
-use Rattle.model.specs.Exported.{leaves}
+use Rattle.model.specs.Exported.{exported, leaves}
 use Rattle.model.specs.calls.Asked.{askedRows}
 use Rattle.model.specs.calls.CheckGame as CheckGame
 use Rattle.model.specs.calls.CheckGame.{Counts, checkGame}
@@ -48,6 +50,8 @@ use Rattle.model.specs.calls.Values as Values
 use Rattle.model.specs.calls.Values.{valuesCall}
 use Rattle.model.specs.calls.Verdict as Verdict
 use Rattle.model.specs.calls.Verdict.{accepted, deviates, verdictCall, numbers, verdictNumbers}
+use Rattle.model.specs.calls.Tolerance as Tolerance
+use Rattle.model.specs.calls.Tolerance.{tolerates}
 use Rattle.model.specs.calls.Report as Report
 use Rattle.model.specs.calls.Report.{reportCall}
 use Rattle.model.specs.calls.RefusalLine as RefusalLine
@@ -355,6 +359,38 @@ verdicts =
 verdicts-hold : AllHold verdicts
 unfolding lent leaning second Verdict.call Bounded.opened Bits.opened Game.opened Sequences.opened GameChecks.opened Plan.opened PlanChecks.opened Earnings.opened BestResponse.opened Pair.opened Writing.opened Rows.opened Checks.opened Call.opened Starred.opened
 verdicts-hold = refl then refl then refl then refl then refl then refl then refl then refl then refl then refl then refl then end
+
+-- Two more pairs for document 003's game. In A, over 9 and 3, only player 1 gains, 9 of 27; in B, over the same, the players gain 3 and 12 of 27.
+unfoldable pairA : List ℕ
+pairA = planBytes 9 3 (6 ∷ 3 ∷ 2 ∷ 4 ∷ 1 ∷ 2 ∷ [])
+
+unfoldable pairB : List ℕ
+pairB = planBytes 9 3 (3 ∷ 6 ∷ 2 ∷ 1 ∷ 2 ∷ 1 ∷ [])
+
+-- House tolerance: a gain equal to it passes, a third is above 333 thousandths, and both players are judged.
+abbrev tolerances : List Case
+tolerances =
+    (tolerates 500 study planF is outcome (given true) tt)
+    ∷ (tolerates 499 study planF is outcome (given false) tt)
+    ∷ (tolerates 0 study planM is outcome (given true) tt)
+    ∷ (tolerates 0 study planF is outcome (given false) tt)
+    ∷ (tolerates 333 study pairA is outcome (given false) tt)
+    ∷ (tolerates 334 study pairA is outcome (given true) tt)
+    ∷ (tolerates 444 study pairB is outcome (given false) tt)
+    ∷ (tolerates 445 study pairB is outcome (given true) tt)
+    ∷ (tolerates 65535 study bare is outcome (refused 14) tt)
+    ∷ (exported Tolerance.passesNumber 91 (tolerates 500 study planF) is leaves 0 1 tt)
+    ∷ (exported Tolerance.passesNumber 91 (tolerates 499 study planF) is leaves 0 0 tt)
+    ∷ (exported Tolerance.passesNumber 91 (tolerates 500 study bare) is leaves 14 91 tt)
+    ∷ (thousandthsUp 1 2 is 500)
+    ∷ (thousandthsUp 9 27 is 334)
+    ∷ (thousandthsUp 54 27 is 2000)
+    ∷ (thousandthsUp 0 27 is 0)
+    ∷ []
+
+tolerances-hold : AllHold tolerances
+unfolding pairA pairB Tolerance.call Tolerated.opened Bounded.opened Bits.opened Game.opened Sequences.opened GameChecks.opened Plan.opened PlanChecks.opened Earnings.opened BestResponse.opened Pair.opened Writing.opened Rows.opened Checks.opened Call.opened Starred.opened
+tolerances-hold = refl then refl then refl then refl then refl then refl then refl then refl then refl then refl then refl then refl then refl then refl then refl then refl then end
 
 -- the text for one leaf alone, D0 = 7, payoffs 5 and 6: 16, 16, 15, 15 and 9 bytes
 abbrev text : List ℕ

@@ -15,6 +15,7 @@ pub mod RewriteGame
 pub mod RewritePlan
 pub mod SetEntry
 pub mod SheetFromPlan
+pub mod Tolerance
 pub mod Values
 pub mod Verdict
 pub mod WriteGame

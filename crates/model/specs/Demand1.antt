@@ -28,6 +28,7 @@ use Rattle.model.specs.calls.RereadGame as RereadGame
 use Rattle.model.specs.calls.RereadPlan as RereadPlan
 use Rattle.model.specs.calls.PlanFromSheet as PlanFromSheet
 use Rattle.model.specs.calls.SheetFromPlan as SheetFromPlan
+use Rattle.model.specs.calls.Tolerance as Tolerance
 
 -- What demand 1 says of a call.
 pub record Clause {I R : Type 0} {shape : List (Type 0)} (c : Call I shape R) (Good : I → Type 0) : Type 0 where
@@ -62,3 +63,4 @@ pub record Demand1 : Type 0 where
   pub reread-plan : Clause RereadPlan.call (λ t. PlanFieldsFit (t .fields) × GoodFiles (RereadPlan.filesOf t))
   pub plan-from-sheet : (width limit : ℕ) → Clause (PlanFromSheet.call width limit) (PlanFromSheet.GoodSheet width limit)
   pub sheet-from-plan : (width : ℕ) → Clause (SheetFromPlan.call width) GoodFiles
+  pub tolerates : (t : ℕ) → Clause (Tolerance.call t) GoodFiles

@@ -24,6 +24,7 @@ pub mod Sheet
 pub mod SheetPromises
 pub mod Starred
 pub mod Table
+pub mod Tolerance
 pub mod Verdict
 pub mod Writing
 pub mod calls

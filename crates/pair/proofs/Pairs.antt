@@ -4,7 +4,6 @@ use mathlib.Core.Path.{_≡_, refl, sym, ap, _∙_}
 use mathlib.Core.Bool.{false, cond, _||_}
 use mathlib.Core.List.{List}
 use native.Mathlib.Omega.{arith}
-use native.Mathlib.Nat as NatL
 use borrow.Author.Tests.{ne-eqb}
 use lib.Dec.{eqb}
 use lib.ListN.{length}
@@ -16,8 +15,7 @@ use Rattle.model.specs.Sequences.{sequenceCount}
 use Rattle.model.specs.Checks.{headerRows, recordRows, treeRows, gameRows, planRows, pairRows, gameRefusal, pairRefusal}
 use Rattle.model.specs.PlanChecks.{Files, files}
 use Rattle.model.specs.Rows.{of, refusal}
-use Rattle.model.proofs.Rows.{named-of, refusal-below}
-use Rattle.checks.proofs.Chains.{after, refusal-of}
+use Rattle.model.proofs.Rows.{named-of, refusal-of, refusal-append, refusal-below}
 use Rattle.loaded.specs.declared.Counts.{Counts}
 use Rattle.loaded.specs.Counts.{countsOf}
 use Rattle.model.proofs.Checks.{game-named, game-rules}
@@ -41,7 +39,7 @@ module _ (game plan : List ℕ) where
   unfolding pairRefusal pairRows gameRefusal
   joined =
       let part : Files → List ℕ = λ f. f .game in
-      after (of part gameRows) planRows (files game plan) (named-of part gameRows game-named) (refusal gameRows game) (refusal-of part gameRows (files game plan))
+      refusal-append (of part gameRows) planRows (files game plan) (named-of part gameRows game-named) (refusal gameRows game) (refusal-of part gameRows (files game plan))
 
   -- a game that is refused
   pub game-refused : {r : ℕ} → r ≡ gameRefusal game → ¬ (r ≡ 0) → pairRefusal game plan ≡ r

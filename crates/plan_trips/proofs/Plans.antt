@@ -31,14 +31,14 @@ use Rattle.model.proofs.Budget.{game-limits}
 use Rattle.model.proofs.Numbers.{plan-moves-few}
 use Rattle.model.proofs.PlanTrips.{plan-file-trip, plan-fields-trip}
 use Rattle.model.proofs.Cut.{long-plan, long-plans}
-use Rattle.model.proofs.Rows.{taken-iff}
+use Rattle.model.proofs.Rows.{taken-iff, refusal-of}
 use Rattle.model.proofs.Checks.{pair-refusal, pair-named, pair-decided}
 use Rattle.model.proofs.calls.RereadPlan.{reread-decided}
 use Rattle.checks.specs.declared.Checked.{Checked}
 use Rattle.checks.specs.declared.Checked.the-variants.{Fine, Broken}
 use Rattle.checks.specs.Checked.{checkedOf, numberOf}
 use Rattle.checks.proofs.Rooms.{split}
-use Rattle.checks.proofs.Chains.{Refuses, begin, passes, stops, refusal-of, is-broken, fine-holds, call-refuses, call-room, inRoom, same-run}
+use Rattle.checks.proofs.Chains.{Refuses, begin, passes, stops, is-broken, fine-holds, call-refuses, call-room, inRoom, same-run}
 use Rattle.checks.specs.declared.WriteAnswer.{WriteAnswer}
 use Rattle.checks.specs.declared.WriteAnswer.the-variants.{Written, Refused}
 use Rattle.checks.specs.Answers.{writeAnswered}

@@ -10,6 +10,7 @@ pub mod program;
 pub mod report;
 pub mod responses;
 pub mod sheets;
+pub mod tolerance;
 pub mod verdict;
 pub mod writers;
 
@@ -30,6 +31,7 @@ pub fn programs() -> Result<Vec<Program>, Refusal> {
         verdict::try_verdict()?,
         report::try_report()?,
         sheets::try_sheets()?,
+        tolerance::try_tolerance()?,
         responses::time_responses()?,
     ])
 }

@@ -7,13 +7,15 @@ pub(crate) mod refused;
 
 pub use order::{pairs, Pair};
 
+use crate::game;
 use crate::program::Program;
 use crate::text::list;
+use generator::named::plan_m;
 use generator::tables::{GameTables, PlanWeights};
 use reference::Refusal;
 
-/// The file that names every case, its game and then its plan on a line each.
-const LIST: &str = "cases";
+/// The file that names every case, each of its files on a line: the game and then the plan.
+pub(crate) const LIST: &str = "cases";
 
 /// The file that names those read into buffers of each length, likewise.
 const ROOMS: &str = "rooms";
@@ -49,12 +51,9 @@ impl Case {
         format!("{:02}-{}", self.refusal, self.title)
     }
 
-    fn game_path(&self) -> String {
-        self.name() + "/game.bin"
-    }
-
-    fn plan_path(&self) -> String {
-        self.name() + "/plan.bin"
+    /// The path of one of its files.
+    pub fn path(&self, file: &str) -> String {
+        format!("{}/{file}.bin", self.name())
     }
 }
 
@@ -72,6 +71,28 @@ pub(crate) fn refused_by_each() -> Result<Vec<Case>, Refusal> {
     let mut cases = all_cases()?;
     cases.retain(|case| case.title == "refused-game" || REFUSED_PLANS.contains(&case.title));
     Ok(cases)
+}
+
+/// Games with plan M, and plans, that break two rules with neighbouring numbers.
+pub(crate) fn two_rules() -> Result<Vec<Case>, Refusal> {
+    let games = game::pairs()?.into_iter().map(|pair| pair.both);
+    let mut cases = with_plan_m(games)?;
+    cases.extend(pairs()?.into_iter().map(|pair| pair.both));
+    Ok(cases)
+}
+
+/// Each game with plan M.
+pub(crate) fn with_plan_m(
+    games: impl IntoIterator<Item = game::Case>,
+) -> Result<Vec<Case>, Refusal> {
+    let plan = plan_m().bytes()?;
+    let case = |game: game::Case| Case {
+        refusal: game.refusal,
+        title: game.title,
+        game: game.file,
+        plan: plan.clone(),
+    };
+    Ok(games.into_iter().map(case).collect())
 }
 
 pub fn try_plan() -> Result<Program, Refusal> {
@@ -106,7 +127,7 @@ pub(crate) fn program(
         stdout.push_str(&(output.rooms)(case));
     }
     stdout.push_str(&output.end);
-    let paths = |case: &Case| [case.game_path(), case.plan_path()];
+    let paths = |case: &Case| ["game", "plan"].map(|file| case.path(file));
     let mut files = vec![
         (LIST.to_string(), list(cases.iter().flat_map(paths))),
         (

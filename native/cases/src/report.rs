@@ -1,13 +1,12 @@
 //! The cases of `try_report`, which writes what the desk program prints.
 
-mod amounts;
+pub(crate) mod amounts;
 mod lines;
 mod pairs;
 
 use crate::game;
 use crate::plan::{self, Case, Output};
 use crate::program::Program;
-use generator::named::plan_m;
 use reference::Refusal;
 
 /// The cases whose text is written into buffers around its length: a deviation and an accepted
@@ -28,7 +27,7 @@ pub fn all_cases() -> Result<Vec<Case>, Refusal> {
     cases.extend(amounts::cases()?);
     cases.extend(plan::refused_by_each()?);
     cases.extend(refused_games()?);
-    cases.extend(two_rules()?);
+    cases.extend(plan::two_rules()?);
     Ok(cases)
 }
 
@@ -50,7 +49,7 @@ pub fn try_report() -> Result<Program, Refusal> {
 fn refused_games() -> Result<Vec<Case>, Refusal> {
     let mut games = game::all_cases()?;
     games.retain(|game| REFUSED_GAMES.contains(&game.title));
-    let mut cases = with_plan_m(games)?;
+    let mut cases = plan::with_plan_m(games)?;
     cases.push(Case {
         refusal: 1,
         title: "both-files-empty",
@@ -58,23 +57,4 @@ fn refused_games() -> Result<Vec<Case>, Refusal> {
         plan: Vec::new(),
     });
     Ok(cases)
-}
-
-/// Games and plans that break two rules with neighbouring numbers.
-fn two_rules() -> Result<Vec<Case>, Refusal> {
-    let games = game::pairs()?.into_iter().map(|pair| pair.both);
-    let mut cases = with_plan_m(games)?;
-    cases.extend(plan::pairs()?.into_iter().map(|pair| pair.both));
-    Ok(cases)
-}
-
-fn with_plan_m(games: impl IntoIterator<Item = game::Case>) -> Result<Vec<Case>, Refusal> {
-    let plan = plan_m().bytes()?;
-    let case = |game: game::Case| Case {
-        refusal: game.refusal,
-        title: game.title,
-        game: game.file,
-        plan: plan.clone(),
-    };
-    Ok(games.into_iter().map(case).collect())
 }

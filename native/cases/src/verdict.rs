@@ -1,7 +1,7 @@
 //! The cases of `try_verdict`, which judges plan pairs.
 
 mod lines;
-mod pairs;
+pub(crate) mod pairs;
 
 use crate::plan::{self, Case, Output};
 use crate::program::Program;

@@ -2,18 +2,19 @@
 
 use cases::plan::Case;
 use cases::program::{committed, committed_text, Program};
-use cases::{form, plan, programs, report, verdict};
+use cases::{form, plan, programs, report, tolerance, verdict};
 use reference::game::check_game;
 use reference::plan::check_plan;
 use std::collections::BTreeSet;
 
 /// The programs that go through pairs of files, with their cases.
-fn pair_programs() -> [(&'static str, Vec<Case>); 4] {
+fn pair_programs() -> [(&'static str, Vec<Case>); 5] {
     [
         ("try_plan", plan::all_cases().unwrap()),
         ("try_form", form::all_cases().unwrap()),
         ("try_verdict", verdict::all_cases().unwrap()),
         ("try_report", report::all_cases().unwrap()),
+        ("try_tolerance", tolerance::all_cases().unwrap()),
     ]
 }
 
@@ -57,14 +58,25 @@ fn each_refusal_has_a_pair_and_no_name_stands_twice() {
     }
 }
 
-/// Every folder's two files stand in the list one after the other.
+/// The files of each case of a program.
+fn files_of(program: &str) -> &'static [&'static str] {
+    match program {
+        "try_tolerance" => &["game", "plan", "tolerances"],
+        _ => &["game", "plan"],
+    }
+}
+
+/// Every folder's files stand in the list one after the other.
 #[test]
 fn the_lists_name_every_pair() {
     for (program, cases) in pair_programs() {
         let list = committed_text(program, "data/cases").unwrap();
-        let files =
-            |case: &Case| ["game", "plan"].map(|file| format!("{}/{file}.bin", case.name()));
-        assert!(list.lines().eq(cases.iter().flat_map(files)), "{program}");
+        let paths = |case: &Case| {
+            let name = case.name();
+            let files = files_of(program).iter();
+            files.map(move |file| format!("{name}/{file}.bin"))
+        };
+        assert!(list.lines().eq(cases.iter().flat_map(paths)), "{program}");
     }
 }
 

@@ -36,6 +36,7 @@ pub enum Passed {
 #[derive(Clone, Copy, Debug, PartialEq, Eq)]
 pub enum Number {
     U8,
+    U16,
     U64,
     I64,
 }
@@ -109,6 +110,7 @@ fn elements(kind: &str) -> Option<&str> {
 fn number(kind: &str) -> Option<Number> {
     match kind {
         "u8" => Some(Number::U8),
+        "u16" => Some(Number::U16),
         "u64" => Some(Number::U64),
         "i64" => Some(Number::I64),
         _ => None,

@@ -55,6 +55,7 @@ fn parameter(parameter: &Parameter) -> String {
 fn kind(number: Number) -> &'static str {
     match number {
         Number::U8 => "uint8_t",
+        Number::U16 => "uint16_t",
         Number::U64 => "uint64_t",
         Number::I64 => "int64_t",
     }

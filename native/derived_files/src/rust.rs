@@ -43,6 +43,7 @@ fn parameter(parameter: &Parameter) -> Vec<String> {
 fn kind(number: Number) -> &'static str {
     match number {
         Number::U8 => "u8",
+        Number::U16 => "u16",
         Number::U64 => "u64",
         Number::I64 => "i64",
     }

@@ -13,6 +13,7 @@ fn inner(x: u64) -> u64
 #[no_mangle]
 pub extern "C" fn desk_weigh(
     of: u64,
+    most: u16,
     things: &[u8],
     sum: &mut i64,
     weights: &mut [u64],
@@ -33,6 +34,7 @@ fn weigh() -> Export {
         name: "desk_weigh".to_string(),
         parameters: vec![
             parameter("of", Passed::Given(Number::U64)),
+            parameter("most", Passed::Given(Number::U16)),
             parameter("things", Passed::Read(Number::U8)),
             parameter("sum", Passed::Lent(Number::I64)),
             parameter("weights", Passed::Written(Number::U64)),
@@ -79,6 +81,7 @@ fn c_has_a_pointer_and_a_length_for_a_slice() {
     let wanted = "/* Weighs things, 2 x each. */
 uint64_t desk_weigh(
     uint64_t of,
+    uint16_t most,
     const uint8_t *things, size_t things_len,
     int64_t *sum,
     uint64_t *weights, size_t weights_len);
@@ -92,6 +95,7 @@ fn so_has_rust() {
     let wanted = "    /// Weighs things, 2 × each.
     pub fn desk_weigh(
         of: u64,
+        most: u16,
         things: *const u8,
         things_len: usize,
         sum: *mut i64,
@@ -105,9 +109,9 @@ fn so_has_rust() {
 #[test]
 fn a_short_declaration_for_rust_is_one_line() {
     let mut export = weigh();
-    export.parameters.truncate(2);
+    export.parameters.truncate(3);
     let wanted = "    /// Weighs things, 2 × each.
-    pub fn desk_weigh(of: u64, things: *const u8, things_len: usize) -> u64;
+    pub fn desk_weigh(of: u64, most: u16, things: *const u8, things_len: usize) -> u64;
 ";
     assert_eq!(rust::declaration(&export), wanted);
 }

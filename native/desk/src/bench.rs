@@ -15,9 +15,11 @@
 //! ```
 
 use crate::samples::{slow_sources, sources, Pair, Sample, Source};
-use crate::timing::{best_of, Run};
+use crate::timing::{best_of_all, Run};
 use crate::variants::{self, Variant};
+use crate::verdict::VerdictBuffers;
 use crate::Refusal;
+use reference::limits::MOST_ENTRIES;
 use std::env;
 use std::error::Error;
 use std::hint::black_box;
@@ -41,40 +43,80 @@ pub struct Bench<T> {
     pub call: Call<T>,
 }
 
-impl<T: Clone> Bench<T> {
+/// The verdict.
+pub fn verdict() -> Bench<VerdictBuffers> {
+    Bench {
+        name: "verdict",
+        lent: VerdictBuffers::with_room(MOST_ENTRIES),
+        call: |variant, pair, lent| variant.verdict(&pair.game, &pair.plan, lent),
+    }
+}
+
+/// Another call, of which the library's time is measured in the same run.
+trait Beside {
+    fn name(&self) -> &'static str;
+
+    /// The library's call on every pair of a sample.
+    fn library<'a>(&self, sample: &'a Sample) -> Run<'a>;
+}
+
+impl<T: Clone + 'static> Beside for Bench<T> {
+    fn name(&self) -> &'static str {
+        self.name
+    }
+
+    fn library<'a>(&self, sample: &'a Sample) -> Run<'a> {
+        let [library, ..] = variants::all();
+        self.all_of(sample, library)
+    }
+}
+
+impl<T: Clone + 'static> Bench<T> {
     /// Does as the program's arguments say.
     pub fn run(&self) -> Result<(), Box<dyn Error>> {
+        self.run_with(None)
+    }
+
+    /// The same, with the library's times for another call beside those of this one.
+    pub fn run_beside<U: Clone + 'static>(&self, other: &Bench<U>) -> Result<(), Box<dyn Error>> {
+        self.run_with(Some(other))
+    }
+
+    fn run_with(&self, beside: Option<&dyn Beside>) -> Result<(), Box<dyn Error>> {
         let words: Vec<String> = env::args().skip(1).collect();
         let words: Vec<&str> = words.iter().map(String::as_str).collect();
         match words[..] {
-            [] => self.time_all().map_err(refused),
+            [] => self.time_all(beside).map_err(refused),
             ["count", word] => self.count_all(word),
             ["pass", name, variant] => self.pass(name, variant),
             _ => Err("usage: bench_CALL [count WORD | pass NAME VARIANT]".into()),
         }
     }
 
-    fn time_all(&self) -> Result<(), Refusal> {
-        self.print_heading("us");
+    fn time_all(&self, beside: Option<&dyn Beside>) -> Result<(), Refusal> {
+        self.print_heading("us", beside);
         for source in sources() {
-            self.time(&source.draw()?);
+            self.time(&source.draw()?, beside);
         }
         let slow = slow_sources().into_iter().map(Source::draw);
         let slow: Vec<Sample> = slow.collect::<Result<_, _>>()?;
         let slowest = slow.iter().max_by_key(|sample| self.library_time(sample));
-        slowest.into_iter().for_each(|sample| self.time(sample));
+        let slowest = slowest.into_iter();
+        slowest.for_each(|sample| self.time(sample, beside));
         Ok(())
     }
 
-    fn time(&self, sample: &Sample) {
+    fn time(&self, sample: &Sample, beside: Option<&dyn Beside>) {
         let runs = variants::all().map(|variant| self.all_of(sample, variant));
-        print_row(&sample.name, best_of(sample.pairs.len(), runs), 2);
+        let beside = beside.map(|other| other.library(sample));
+        let mut runs: Vec<Run> = runs.into_iter().chain(beside).collect();
+        let times = best_of_all(sample.pairs.len(), &mut runs);
+        print_row(&sample.name, &times, 2);
     }
 
     /// How long the library takes for a sample, the lesser of two passes.
     fn library_time(&self, sample: &Sample) -> Duration {
-        let [library, ..] = variants::all();
-        let mut run = self.all_of(sample, library);
+        let mut run = self.library(sample);
         let times = [(); 2].map(|()| {
             let start = Instant::now();
             run();
@@ -84,13 +126,13 @@ impl<T: Clone> Bench<T> {
     }
 
     fn count_all(&self, word: &str) -> Result<(), Box<dyn Error>> {
-        self.print_heading("instructions");
+        self.print_heading("instructions", None);
         for sample in named(word).map_err(refused)? {
             let mut counts = [0.0; variants::COUNT];
             for (count, variant) in counts.iter_mut().zip(variants::NAMES) {
                 *count = counted(&sample.name, variant)? / sample.pairs.len() as f64;
             }
-            print_row(&sample.name, counts, 0);
+            print_row(&sample.name, &counts, 0);
         }
         Ok(())
     }
@@ -105,10 +147,7 @@ impl<T: Clone> Bench<T> {
     }
 
     /// The call on every pair of a sample, each of which it must take.
-    fn all_of<'a>(&self, sample: &'a Sample, mut variant: Box<dyn Variant + 'a>) -> Run<'a>
-    where
-        T: 'a,
-    {
+    fn all_of<'a>(&self, sample: &'a Sample, mut variant: Box<dyn Variant>) -> Run<'a> {
         let (call, mut lent) = (self.call, self.lent.clone());
         Box::new(move || {
             for pair in &sample.pairs {
@@ -119,10 +158,13 @@ impl<T: Clone> Bench<T> {
         })
     }
 
-    fn print_heading(&self, unit: &str) {
+    fn print_heading(&self, unit: &str, beside: Option<&dyn Beside>) {
         let columns = "library | same method | ratio | by words | ratio | expert | ratio |";
-        println!("| {}, {unit} a file | {columns}", self.name);
-        println!("{}|", "|---".repeat(2 * variants::COUNT));
+        let beside = beside.map(|other| format!(" {} | ratio |", other.name()));
+        let count = variants::COUNT + usize::from(beside.is_some());
+        let beside = beside.unwrap_or_default();
+        println!("| {}, {unit} a file | {columns}{beside}", self.name);
+        println!("{}|", "|---".repeat(2 * count));
     }
 }
 
@@ -133,10 +175,15 @@ fn named(word: &str) -> Result<Vec<Sample>, Refusal> {
     named.map(Source::draw).collect()
 }
 
-/// A figure of each variant, with the ratio of the library's to it.
-fn print_row(name: &str, [library, others @ ..]: [f64; variants::COUNT], digits: usize) {
+/// The library's figure and others, each with the ratio of the library's to it.
+fn print_row(name: &str, figures: &[f64], digits: usize) {
+    let [library, others @ ..] = figures else {
+        return;
+    };
+    let others = others.iter();
     let others = others.map(|other| format!(" {other:.digits$} | {:.2} |", library / other));
-    println!("| {name} | {library:.digits$} |{}", others.concat());
+    let others: String = others.collect();
+    println!("| {name} | {library:.digits$} |{others}");
 }
 
 /// A name that valgrind finds.

@@ -1,5 +1,5 @@
 //! Pairs to run a program on: at and near equilibria, arbitrary ones, and damaged ones. Each has
-//! a play sheet of the game.
+//! a play sheet of the game. Also pairs made for each refusal, and games of full size.
 
 use crate::listing::{amount, Amount};
 use crate::samples::Pair;
@@ -7,6 +7,8 @@ use crate::Refusal;
 use generator::aim::{aim_at_game, aim_at_plan};
 use generator::damage::random_damage;
 use generator::games::random_game;
+use generator::large::{comb, most_nodes, most_sets, most_sets_of_one};
+use generator::named::{own_chain, row_of_sets, wide_decision};
 use generator::near::pairs_near;
 use generator::plans::{random_plan, random_pure_plan};
 use generator::refused_plans::misfits;
@@ -14,7 +16,7 @@ use generator::refused_sheets::{beyond_the_limit, without_odds, wrong_fillings, 
 use generator::rng::Rng;
 use generator::shape::{random_count, Shape};
 use generator::sheets::{random_sheet, sheet_of};
-use generator::slow::{slow_game, Slow};
+use generator::slow::{slow_game, slow_games_of_full_size, Slow};
 use generator::tables::{GameTables, PlanWeights};
 use reference::game::{check_game, Game, Player};
 use reference::limits::MOST_ENTRIES;
@@ -118,6 +120,41 @@ fn damaged(rng: &mut Rng, pair: &Pair, plan: &Plan) -> Vec<Pair> {
     };
     let games = games.into_iter().map(of_game);
     games.chain(plans.into_iter().map(of_plan)).collect()
+}
+
+/// Pairs of files made for each refusal out of a plan that fits, and some damaged at random.
+pub fn damaged_pairs(rng: &mut Rng, file: &[u8], plan: &Plan, bytes: &[u8]) -> Vec<[Vec<u8>; 2]> {
+    let games = (1..=13).filter_map(|refusal| aim_at_game(rng, plan.game(), refusal));
+    let with_plan_or_none = |game: Vec<u8>| [[game.clone(), bytes.to_vec()], [game, Vec::new()]];
+    let mut pairs: Vec<[Vec<u8>; 2]> = games.flat_map(with_plan_or_none).collect();
+    let plans = (14..=16).filter_map(|refusal| aim_at_plan(rng, plan, refusal));
+    pairs.extend(plans.map(|plan| [file.to_vec(), plan]));
+    for _ in 0..4 {
+        pairs.push([file.to_vec(), random_damage(rng, bytes)]);
+        pairs.push([random_damage(rng, file), bytes.to_vec()]);
+    }
+    pairs
+}
+
+/// Games of full size and of full length, of one move a set and of many.
+pub fn large_games(rng: &mut Rng) -> Vec<GameTables> {
+    let mut games = vec![
+        most_nodes(),
+        most_sets(),
+        most_sets_of_one(),
+        comb(|level| Player::BOTH[level % 2], 0),
+        comb(|_| Player::Two, 7),
+        own_chain(255),
+        row_of_sets(Player::One, 255),
+        row_of_sets(Player::Two, 255),
+        wide_decision(64),
+    ];
+    games.extend(slow_games_of_full_size().into_iter().map(|(_, game)| game));
+    for _ in 0..4 {
+        let (full, deep) = (Shape::full(rng), Shape::deep(rng));
+        games.extend([full, deep].map(|shape| random_game(rng, &shape)));
+    }
+    games
 }
 
 /// How often each answer was met among some pairs.

@@ -72,7 +72,7 @@ pub fn deepest_and_largest() -> Result<Vec<Files>, Refusal> {
 /// A name, and the call, which must take the files.
 pub type Named = (&'static str, fn(&Files) -> Result<(), Refusal>);
 
-pub const EXPORTS: [Named; 12] = [
+pub const EXPORTS: [Named; 13] = [
     ("desk_check_game", |files| {
         let _ = black_box(crate::check_game(&files.game)?);
         Ok(())
@@ -96,6 +96,10 @@ pub const EXPORTS: [Named; 12] = [
     ("desk_verdict", |files| {
         let mut verdict = VerdictBuffers::with_room(MOST_ENTRIES);
         crate::verdict::verdict(&files.game, &files.plan, black_box(&mut verdict))
+    }),
+    ("desk_tolerates", |files| {
+        let mut passes = 0;
+        crate::tolerance::tolerates(&files.game, &files.plan, u16::MAX, black_box(&mut passes))
     }),
     ("desk_report", |files| {
         let mut text = Output::with_room(MOST_BYTES);

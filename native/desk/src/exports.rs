@@ -103,6 +103,17 @@ extern "C" {
         moves_len: usize,
     ) -> u64;
 
+    /// Whether a pair passes at a tolerance, given in thousandths of a payoff point: `passes` is 1
+    /// where neither player has a strategy that gains more than `tolerance` / 1000, else 0.
+    pub fn desk_tolerates(
+        game: *const u8,
+        game_len: usize,
+        plan: *const u8,
+        plan_len: usize,
+        tolerance: u16,
+        passes: *mut u64,
+    ) -> u64;
+
     /// What the desk program prints for two files that are not sent back, and how many bytes it
     /// has. 69,864 bytes are always enough.
     pub fn desk_report(

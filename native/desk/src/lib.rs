@@ -14,6 +14,7 @@ pub mod report;
 pub mod samples;
 pub mod sheet;
 pub mod timing;
+pub mod tolerance;
 pub mod variants;
 pub mod verdict;
 

@@ -8,6 +8,7 @@ pub mod plan;
 pub mod responses;
 pub mod sheet;
 pub mod table;
+pub mod tolerance;
 pub mod verdict;
 pub mod write;
 

@@ -14,7 +14,13 @@ pub type Run<'a> = Box<dyn FnMut() + 'a>;
 
 /// The best time of each run, in microseconds for each of its `count` files.
 pub fn best_of<const RUNS: usize>(count: usize, mut runs: [Run; RUNS]) -> [f64; RUNS] {
-    let mut best = [f64::MAX; RUNS];
+    let best = best_of_all(count, &mut runs);
+    best.try_into().expect("a time for each run")
+}
+
+/// The same for any number of runs.
+pub fn best_of_all(count: usize, runs: &mut [Run]) -> Vec<f64> {
+    let mut best = vec![f64::MAX; runs.len()];
     let begin = Instant::now();
     for round in 0..ROUNDS {
         if round >= FEW && begin.elapsed() > LONGEST {

@@ -16,6 +16,7 @@ pub trait Variant {
     fn payoff_table(&mut self, game: &[u8], out: &mut TableBuffers) -> Answer;
     fn values(&mut self, game: &[u8], plan: &[u8], out: &mut Values) -> Answer;
     fn verdict(&mut self, game: &[u8], plan: &[u8], out: &mut VerdictBuffers) -> Answer;
+    fn tolerates(&mut self, game: &[u8], plan: &[u8], tolerance: u16, out: &mut u64) -> Answer;
     fn plan_from_sheet(&mut self, game: &[u8], sheet: &[u8], out: &mut Output) -> Answer;
     fn sheet_from_plan(&mut self, game: &[u8], plan: &[u8], out: &mut Output) -> Answer;
 }
@@ -66,6 +67,10 @@ impl Variant for Library {
         crate::verdict::verdict(game, plan, out)
     }
 
+    fn tolerates(&mut self, game: &[u8], plan: &[u8], tolerance: u16, out: &mut u64) -> Answer {
+        crate::tolerance::tolerates(game, plan, tolerance, out)
+    }
+
     fn plan_from_sheet(&mut self, game: &[u8], sheet: &[u8], out: &mut Output) -> Answer {
         crate::sheet::plan_from_sheet(game, sheet, out)
     }
@@ -98,6 +103,10 @@ impl<R: Reader> Variant for SameMethod<R> {
         plain::verdict::verdict::<R>(game, plan, out)
     }
 
+    fn tolerates(&mut self, game: &[u8], plan: &[u8], tolerance: u16, out: &mut u64) -> Answer {
+        plain::tolerance::tolerates::<R>(game, plan, tolerance, out)
+    }
+
     fn plan_from_sheet(&mut self, game: &[u8], sheet: &[u8], out: &mut Output) -> Answer {
         plain::sheet::plan_from_sheet::<R>(game, sheet, out)
     }
@@ -128,6 +137,10 @@ impl Variant for Expert {
 
     fn verdict(&mut self, game: &[u8], plan: &[u8], out: &mut VerdictBuffers) -> Answer {
         expert::verdict(game, plan, &mut self.0, out)
+    }
+
+    fn tolerates(&mut self, game: &[u8], plan: &[u8], tolerance: u16, out: &mut u64) -> Answer {
+        expert::tolerates(game, plan, tolerance, &mut self.0, out)
     }
 
     fn plan_from_sheet(&mut self, game: &[u8], sheet: &[u8], out: &mut Output) -> Answer {

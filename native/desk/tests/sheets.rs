@@ -1,6 +1,7 @@
 //! Play sheets: the proved library and plain Rust against the independent implementation, and
 //! the ways from a sheet to a plan and back through the library alone.
 
+use desk::drawn::large_games;
 use desk::sheet::{plan_from_sheet, sheet_from_plan};
 use desk::variants::{self, Variant, COUNT, NAMES};
 use desk::verdict::{verdict, VerdictBuffers};
@@ -9,10 +10,9 @@ use generator::aim::{aim_at_game, aim_at_plan};
 use generator::damage::random_damage;
 use generator::edit::{changed, plan_weight};
 use generator::games::random_game;
-use generator::large::{comb, most_nodes, most_sets, most_sets_of_one};
+use generator::large::most_nodes;
 use generator::named::{
-    backward, one_leaf, own_chain, plan_f, plan_m, row_of_sets, set_below_itself, study_game,
-    wide_decision,
+    backward, one_leaf, plan_f, plan_m, row_of_sets, set_below_itself, study_game,
 };
 use generator::plans::{even_plan, random_multiple_plan, random_plan, random_pure_plan};
 use generator::poker::{kuhn, leduc};
@@ -21,7 +21,6 @@ use generator::refused_sheets::{beyond_the_limit, without_odds, wrong_fillings, 
 use generator::rng::Rng;
 use generator::shape::{random_count, Shape};
 use generator::sheets::{pure_sheet, random_sheet, sheet_of, sheets_at_the_limit};
-use generator::slow::slow_games_of_full_size;
 use generator::tables::{GameTables, PlanWeights, SheetOdds};
 use reference::deliver;
 use reference::game::{check_game, Game, Player};
@@ -239,27 +238,6 @@ fn sheets_and_plans_of_generated_games_agree() {
     for refusals in [sheets, plans] {
         assert!(refusals[1..14].iter().all(|&count| count > 150));
     }
-}
-
-/// Games of full size and of full length, of one move a set and of many.
-fn large_games(rng: &mut Rng) -> Vec<GameTables> {
-    let mut games = vec![
-        most_nodes(),
-        most_sets(),
-        most_sets_of_one(),
-        comb(|level| Player::BOTH[level % 2], 0),
-        comb(|_| Player::Two, 7),
-        own_chain(255),
-        row_of_sets(Player::One, 255),
-        row_of_sets(Player::Two, 255),
-        wide_decision(64),
-    ];
-    games.extend(slow_games_of_full_size().into_iter().map(|(_, game)| game));
-    for _ in 0..4 {
-        let (full, deep) = (Shape::full(rng), Shape::deep(rng));
-        games.extend([full, deep].map(|shape| random_game(rng, &shape)));
-    }
-    games
 }
 
 #[test]

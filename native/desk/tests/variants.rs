@@ -16,6 +16,8 @@ const PAIRS: usize = 1_500;
 /// Rooms in which every result fits, and few.
 const ROOMS: [usize; 2] = [4_095, 2];
 
+const TOLERANCES: [u16; 3] = [0, 1_000, u16::MAX];
+
 type Variants = [Box<dyn Variant>; COUNT];
 
 /// All variants of a call must give one answer, and leave the same in what is lent to them.
@@ -52,6 +54,12 @@ fn compare_pair(variants: &mut Variants, Pair { game, plan, .. }: &Pair) -> usiz
     let valued = compare(variants, &untouched_values, |variant, out| {
         variant.values(game, plan, out)
     });
+    for tolerance in TOLERANCES {
+        let judged = compare(variants, &7, |variant, out| {
+            variant.tolerates(game, plan, tolerance, out)
+        });
+        assert_eq!(judged, valued);
+    }
     for room in ROOMS {
         let (fields, table, verdict) = untouched(room);
         let listed = compare(variants, &table, |variant, out| {

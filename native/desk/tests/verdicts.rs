@@ -1,18 +1,17 @@
 //! The proved library's verdicts: against every pure strategy of small games, and against the
 //! independent implementation on large ones.
 
+use desk::drawn::damaged_pairs;
 use desk::verdict::{verdict, VerdictBuffers};
 use desk::{expected, plain, Refusal};
-use generator::aim::{aim_at_game, aim_at_plan};
-use generator::damage::random_damage;
 use generator::games::{game_of_few_strategies, random_game};
 use generator::large::{comb, most_nodes, most_sets};
 use generator::named::{
     one_leaf, own_chain, plan_f, plan_m, plan_q, plan_r_against_thirds, study_game, wide_chance,
     wide_decision,
 };
-use generator::near::{averaged_best_responses, pairs_near, shifted_by_one};
-use generator::plans::{even_plan, pure_weights, random_plan, random_pure_plan};
+use generator::near::{averaged_best_responses, pairs_near, pairs_of_each_kind, shifted_by_one};
+use generator::plans::{random_plan, random_pure_plan};
 use generator::poker::{kuhn, kuhn_equilibrium, leduc};
 use generator::rng::Rng;
 use generator::shape::{random_count, Payoffs, Shape};
@@ -205,28 +204,10 @@ fn verdicts_on_poker_agree() {
     }
 }
 
-/// The pair with player 1's plan changed to his best one, so that only player 2 can gain.
-fn answered(game: &Game, mut pair: PlanWeights) -> PlanWeights {
-    let bytes = pair.bytes().expect("a plan that fits");
-    let plan = check_plan(game, &bytes).expect("a plan that fits");
-    let best = best_response(&plan, Player::One);
-    pair.weights[0] = pure_weights(game, Player::One, &best.moves);
-    pair
-}
-
 /// Pairs of large games.
 fn compare_large(rng: &mut Rng, tables: &GameTables, tally: &mut Tally) {
     let (file, game) = accepted(tables);
-    let denominators = [random_count(rng), random_count(rng)];
-    let drawn = random_plan(rng, &game, denominators);
-    let mut pairs = vec![
-        answered(&game, drawn.clone()),
-        drawn,
-        random_pure_plan(rng, &game),
-        even_plan(&game, [4_095, 4_095]),
-    ];
-    pairs.extend(averaged_best_responses(&game, 2));
-    for pair in pairs {
+    for pair in pairs_of_each_kind(rng, &game).expect("plans that fit") {
         compare_pair(&file, &game, &pair, tally);
     }
 }
@@ -340,20 +321,6 @@ fn compare_files(file: &[u8], plan: &[u8]) -> usize {
         compare_room(file, plan, &wanted, room);
     }
     wanted.err().unwrap_or(0).into()
-}
-
-/// Pairs of files made for each refusal out of a plan that fits, and some damaged at random.
-fn damaged_pairs(rng: &mut Rng, file: &[u8], plan: &Plan, bytes: &[u8]) -> Vec<[Vec<u8>; 2]> {
-    let games = (1..=13).filter_map(|refusal| aim_at_game(rng, plan.game(), refusal));
-    let with_plan_or_none = |game: Vec<u8>| [[game.clone(), bytes.to_vec()], [game, Vec::new()]];
-    let mut pairs: Vec<[Vec<u8>; 2]> = games.flat_map(with_plan_or_none).collect();
-    let plans = (14..=16).filter_map(|refusal| aim_at_plan(rng, plan, refusal));
-    pairs.extend(plans.map(|plan| [file.to_vec(), plan]));
-    for _ in 0..4 {
-        pairs.push([file.to_vec(), random_damage(rng, bytes)]);
-        pairs.push([random_damage(rng, file), bytes.to_vec()]);
-    }
-    pairs
 }
 
 #[test]

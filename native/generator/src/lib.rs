@@ -1,5 +1,6 @@
-//! Games, plans, play sheets and damaged files to try a reader and a verdict
-//! with. All are drawn from a seeded generator, so each run gives the same ones.
+//! Games, plans, play sheets, tolerances and damaged files to try a reader and a
+//! verdict with. All are drawn from a seeded generator, so each run gives the same
+//! ones.
 
 pub mod aim;
 pub mod damage;
@@ -18,6 +19,7 @@ pub mod shape;
 pub mod sheets;
 pub mod slow;
 pub mod tables;
+pub mod tolerances;
 
 mod grouping;
 mod tree;

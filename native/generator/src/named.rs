@@ -1,4 +1,5 @@
-//! The games and plans that document 01 names, and games for play sheets.
+//! The games and plans that document 01 names, games for play sheets, and pairs for the house
+//! tolerance.
 
 use crate::tables::{GameTables, Place, PlanWeights};
 use reference::game::Player;
@@ -46,6 +47,27 @@ pub fn plan_f() -> PlanWeights {
 pub fn plan_r_against_thirds() -> PlanWeights {
     PlanWeights {
         weights: [vec![1, 0, 1, 0, 0], vec![3, 2, 1]],
+    }
+}
+
+/// Pair A of the study game: player 1 alone gains, 9 of 27.
+pub fn pair_a() -> PlanWeights {
+    PlanWeights {
+        weights: [vec![9, 6, 3, 2, 4], vec![3, 1, 2]],
+    }
+}
+
+/// Pair B of the study game: player 1 gains 3 of 27 and player 2 gains 12.
+pub fn pair_b() -> PlanWeights {
+    PlanWeights {
+        weights: [vec![9, 3, 6, 2, 1], vec![3, 2, 1]],
+    }
+}
+
+/// Pair C of the study game: player 1 alone gains, 18 of 27.
+pub fn pair_c() -> PlanWeights {
+    PlanWeights {
+        weights: [vec![9, 3, 6, 1, 2], vec![3, 1, 2]],
     }
 }
 
@@ -101,6 +123,17 @@ pub fn wide_decision(moves: u64) -> GameTables {
     tables.add_decision(tables.root(), set);
     for number in 0..moves {
         tables.add_leaf(Place::new(0, number, 1), [number as i64, 0]);
+    }
+    tables
+}
+
+/// A decision of player 1 between two leaves with these payoffs to him.
+pub fn one_choice(payoffs: [i64; 2]) -> GameTables {
+    let mut tables = GameTables::new(1);
+    let set = tables.add_set(Player::One, 2);
+    tables.add_decision(tables.root(), set);
+    for (number, payoff) in payoffs.into_iter().enumerate() {
+        tables.add_leaf(Place::new(0, number as u64, 1), [payoff, 0]);
     }
     tables
 }

@@ -1,11 +1,12 @@
 //! Pairs at or near an equilibrium.
 
-use crate::plans::{pure_weights, random_plan, random_pure_plan};
+use crate::plans::{even_plan, pure_weights, random_plan, random_pure_plan};
 use crate::rng::Rng;
 use crate::shape::random_count;
 use crate::tables::PlanWeights;
 use reference::form::best_response;
 use reference::game::{Game, Move, Player};
+use reference::limits::LARGEST;
 use reference::plan::{check_plan, Plan};
 use reference::verdict::{verdict, Verdict};
 use reference::Refusal;
@@ -82,6 +83,23 @@ pub fn pairs_near(rng: &mut Rng, game: &Game) -> Vec<PlanWeights> {
         pairs.push(scaled);
     }
     pairs
+}
+
+/// Any pair, before it the same with player 1's best plan, so that only player 2 can gain; a pure
+/// one, an even one and one of averaged best responses.
+pub fn pairs_of_each_kind(rng: &mut Rng, game: &Game) -> Result<Vec<PlanWeights>, Refusal> {
+    let denominators = [random_count(rng), random_count(rng)];
+    let drawn = random_plan(rng, game, denominators);
+    let mut answered = drawn.clone();
+    let bytes = drawn.bytes()?;
+    answered.weights[0] = best_weights(&check_plan(game, &bytes)?, Player::One);
+    Ok(vec![
+        answered,
+        drawn,
+        random_pure_plan(rng, game),
+        even_plan(game, [LARGEST, LARGEST]),
+        averaged_best_responses(game, 2)?,
+    ])
 }
 
 /// A pair with one unit of one player's weight moved, for each player who can.

@@ -74,6 +74,19 @@ pub fn verdict(plan: &Plan, limit: usize) -> Option<Verdict> {
     Some(Verdict::Accepted)
 }
 
+/// Whether no pure strategy of either player gains more than so many thousandths of a payoff
+/// point, or nothing where a player has too many strategies.
+pub fn passes(plan: &Plan, tolerance: u16, limit: usize) -> Option<bool> {
+    let allowed = i128::from(plan.value_base()) * i128::from(tolerance);
+    for player in Player::BOTH {
+        let best = best_earnings(plan, player, limit)?;
+        if gain_count(plan, player, best) * 1_000 > allowed {
+            return Some(false);
+        }
+    }
+    Some(true)
+}
+
 fn worthiest_move(plan: &Plan, player: Player, set: usize, limit: usize) -> Option<Move> {
     let mut best: Option<(i128, Move)> = None;
     for number in 0..plan.game().sets().get(set)?.moves {

@@ -1,6 +1,6 @@
 //! A plain reading of document 01, kept clear rather than fast: game and plan
 //! files, the sequence form, the verdict and the desk program's text; and of
-//! document 02: play sheets.
+//! document 02: play sheets, house tolerance.
 
 pub mod bits;
 pub mod brute;
@@ -10,6 +10,7 @@ pub mod limits;
 pub mod plan;
 pub mod report;
 pub mod sheet;
+pub mod tolerance;
 pub mod verdict;
 pub mod writer;
 

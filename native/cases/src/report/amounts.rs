@@ -4,7 +4,7 @@
 
 use crate::choices::{extremes, weights};
 use crate::plan::{fitting, Case};
-use generator::named::one_leaf;
+use generator::named::{one_choice, one_leaf};
 use generator::tables::{GameTables, Place};
 use reference::game::Player;
 use reference::Refusal;
@@ -64,17 +64,6 @@ fn leaf_of(root_weight: u64, payoffs: [i64; 2]) -> GameTables {
     tables
 }
 
-/// Player 1's set 0, with these payoffs to him.
-fn choice(payoffs: [i64; 2]) -> GameTables {
-    let mut tables = GameTables::new(1);
-    let set = tables.add_set(Player::One, 2);
-    let root = tables.add_decision(tables.root(), set);
-    for (number, payoff) in payoffs.into_iter().enumerate() {
-        tables.add_leaf(Place::new(root, number as u64, 1), [payoff, 0]);
-    }
-    tables
-}
-
 /// D0 = 3: with weight 1 the player's set 0, with these payoffs to him, and else a leaf with that
 /// one; the other gets 0.
 fn one_in_three(player: Player, payoffs: [i64; 2], other: i64) -> GameTables {
@@ -97,14 +86,22 @@ fn one_in_three(player: Player, payoffs: [i64; 2], other: i64) -> GameTables {
 fn gain_cases() -> Result<Vec<Case>, Refusal> {
     let case = |title, payoffs, whole: u64| {
         let plan = weights(&[whole, whole - 1, 1], &[1]);
-        fitting(title, &choice(payoffs), &plan)
+        fitting(title, &one_choice(payoffs), &plan)
     };
-    let one_of_3000 = [3_000, 2_999, 1];
-    let one_of_4095 = weights(&[4_095, 4_094, 1], &[4_095, 4_094, 1]);
-    Ok(vec![
+    let mut cases = vec![
         case("gain-of-1-of-1000", [1, 0], 1_000)?,
         case("gain-of-1-of-4095-below-0", [-1, -2], 4_095)?,
         case("no-gain-of-4095", [1, 1], 4_095)?,
+    ];
+    cases.extend(below_a_thousandth()?);
+    Ok(cases)
+}
+
+/// Gains of less than a thousandth of a payoff point.
+pub(crate) fn below_a_thousandth() -> Result<Vec<Case>, Refusal> {
+    let one_of_3000 = [3_000, 2_999, 1];
+    let one_of_4095 = weights(&[4_095, 4_094, 1], &[4_095, 4_094, 1]);
+    Ok(vec![
         fitting(
             "gain-of-1-of-9000",
             &one_in_three(Player::One, [1, 0], 0),
@@ -158,7 +155,7 @@ fn extreme_cases() -> Result<Vec<Case>, Refusal> {
         )?,
         fitting(
             "gain-of-65535",
-            &choice([low, high]),
+            &one_choice([low, high]),
             &weights(&[1, 1, 0], &[1]),
         )?,
         fitting("gain-of-65535-by-player-1", &extremes(one), &worst)?,

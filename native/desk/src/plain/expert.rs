@@ -174,6 +174,24 @@ pub fn verdict(
     Ok(())
 }
 
+/// 1 where no strategy gains more than so many thousandths of a payoff point, else 0: 1 to 16.
+/// Weights of 12 bits leave room for 1,000 × gain in 63.
+pub fn tolerates(
+    game: &[u8],
+    plan: &[u8],
+    tolerance: u16,
+    scratch: &mut Scratch,
+    passes: &mut u64,
+) -> Result<(), Refusal> {
+    let root_weight = scratch.evaluate(game, plan);
+    let root_weight = root_weight.ok_or_else(|| refusal_of_pair(game, plan))?;
+    let [d1, d2] = scratch.weights.denominators();
+    let most = i64::from(tolerance) * (root_weight * d1 * d2) as i64;
+    let [first, second] = scratch.worths.gains([d1, d2]);
+    *passes = (1_000 * first.max(second) <= most).into();
+    Ok(())
+}
+
 /// The payoff table: 1 to 13, then 18.
 pub fn payoff_table(
     game: &[u8],

@@ -34,6 +34,11 @@ impl Evaluated {
             self.bests[player] = game.best_response(player, pair, &mut scratch, moves);
         }
     }
+
+    /// A player's gain, over D0 × D1 × D2.
+    pub fn gain(&self, player: usize, pair: &Pair) -> i64 {
+        self.bests[player] * pair.denominator(player) as i64 - self.values[player]
+    }
 }
 
 /// Values and best values: 1 to 16.

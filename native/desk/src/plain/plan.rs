@@ -79,6 +79,11 @@ impl Pair {
     pub fn denominator(&self, player: usize) -> u64 {
         self.weights[player][0].into()
     }
+
+    /// D0 × D1 × D2.
+    pub fn base(&self, game: &Loaded) -> u64 {
+        game.root_weight * self.denominator(0) * self.denominator(1)
+    }
 }
 
 /// Reads weights from the file's number `from` on.

@@ -19,10 +19,7 @@ pub fn verdict<R: Reader>(
     loaded.load::<R>(game)?;
     pair.read::<R>(&loaded, plan)?;
     evaluated.evaluate(&loaded, &pair);
-    let [d1, d2] = [0, 1].map(|player| pair.denominator(player));
-    let gain = |player: usize| {
-        evaluated.bests[player] * pair.denominator(player) as i64 - evaluated.values[player]
-    };
+    let gain = |player: usize| evaluated.gain(player, &pair);
     let gainer = (0..2).find(|&player| gain(player) > 0);
     buffers.count = match gainer {
         Some(player) => show(&loaded, player, &evaluated, &mut buffers.moves)?,
@@ -30,7 +27,7 @@ pub fn verdict<R: Reader>(
     };
     buffers.player = gainer.map_or(0, |player| player as u64 + 1);
     buffers.gain = gainer.map_or(0, gain);
-    buffers.base = loaded.root_weight * d1 * d2;
+    buffers.base = pair.base(&loaded);
     Ok(())
 }
 
