@@ -38,7 +38,7 @@ gcd_in_is (suc steps) a b l =
       | yes t ↦ let e = eqb→eq b 0 t in rw (cond_yes (eqb b 0) a (gcd_in steps b (a % b)) t) (record { left = NatL.dvd_refl a; right = rw e (NatL.dvd-zero a); greatest = λ d u v. u })
       | no n ↦
           let some : 0 < b = NatL.pos_of_ne-zero (λ e. n (eqb_make b 0 e)) in
-          rw (cond_no (eqb b 0) a (gcd_in steps b (a % b)) n) (step a b _ (gcd_in_is steps b (a % b) (omega (arith, NatL.mod_lt a {m = b} some))))
+          rw (cond_no (eqb b 0) a (gcd_in steps b (a % b)) n) (step a b _ (gcd_in_is steps b (a % b) (omega (arith, NatL.mod-lt a {m = b} some))))
     ]
 
 pub gcd_is : (a b : ℕ) → IsGcd a b (gcd a b)

@@ -1,4 +1,5 @@
 // Greatest common divisors.
+#![tactic(auto)]
 ghost use Rattle.std.specs.Prelude.{◌≡◌};
 ghost use Rattle.algebra.specs.Divisors.{gcd};
 

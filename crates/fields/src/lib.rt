@@ -1,4 +1,5 @@
 // All fields of a game into lent buffers, one a field.
+#![tactic(auto)]
 ghost use Rattle.std.specs.Prelude.{◌≡◌, [], ◌∷◌};
 ghost use Rattle.model.specs.Writing.{field_lists};
 ghost use Rattle.model.specs.Call.{long_enough, outcome};

@@ -87,7 +87,7 @@ module _ (b : List ℕ) where
       -- what they leave for 7 to 11
       pub file_decoded : {header : Header} {l : List ℕ} → header ≡ header_of b → Decoded (game_of b) l → FileDecoded b header l
       unfolding header_rows record_part record_rows
-      file_decoded e D = record { header_is = e; counts = ((none header_rows b tt).0 h).1.1.0; set_moves_lem = ((none record_part b tt).0 r).0; decoded = D }
+      file_decoded e D = record { header_is = e; counts = ((none header_rows b tt).0 h).1.1.0; set_moves = ((none record_part b tt).0 r).0; decoded = D }
 
       pub tree_refuses : {x : Checked} {n m : ℕ} (l : List ℕ) (p : List ℤ) → x ≡ checked_by (refusal tree_part b) → x ≡ checked.Broken n → m ≡ number_of x → FileChecked b (Refused m) l p
       unfolding tree_part record_rows tree_rows
@@ -107,7 +107,7 @@ module _ (b : List ℕ) where
             record {
               header_is = F.header_is;
               rooted = rooted (game_limits b) F.counts F.set_moves s.0 s.1.0;
-              moves_lead_on_lem = s.1.1.0;
+              moves_lead_on = s.1.1.0;
               decoded = F.decoded;
             }
 

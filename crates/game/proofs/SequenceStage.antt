@@ -68,7 +68,7 @@ module _ {b : List ℕ} {header : Header} {l : List ℕ} (F : FileRooted b heade
   }
 
   pub numberable : T (sets_non_empty_of (game_of b)) → Numberable (game_of b)
-  numberable t = record { rooted = F.rooted; moves_lead_on_lem = F.moves_lead_on; sets_non_empty_lem = t }
+  numberable t = record { rooted = F.rooted; moves_lead_on = F.moves_lead_on; sets_non_empty = t }
 
   -- the sections after the sequences are numbered
   pub sequences_in : {r : SequenceCounts} {m k : List ℕ} → T (sets_non_empty_of (game_of b)) → Held first_node_section (first_node (game_of b)) (game_of b).sets m → Apart start_section lead_section m k → SequencesNumbered (game_of b) r k → SequencesIn (game_of b) k
@@ -76,7 +76,7 @@ module _ {b : List ℕ} {header : Header} {l : List ℕ} (F : FileRooted b heade
     filled = record {
       decoded = N.decoded;
       rooted = F.rooted;
-      sets_non_empty_lem = t;
+      sets_non_empty = t;
       first_nodes = held_before h a (omega (arith, F.decoded.few_sets));
       own = N.own;
     };

@@ -53,14 +53,14 @@ pub record RecordsLoaded (bytes : List ℕ) (r : NodesAnswer) (numbers : List �
 pub record FileDecoded (bytes : List ℕ) (header : Header) (numbers : List ℕ) : Type 0 where
   pub header_is : header ≡ header_of bytes
   pub counts : T (counts_positive_of (game_of bytes))
-  pub set_moves_lem : T (set_moves_in_range (game_of bytes))
+  pub set_moves : T (set_moves_in_range (game_of bytes))
   pub decoded : Decoded (game_of bytes) numbers
 
 -- What 1 to 11 leave for 12 and 13.
 pub record FileRooted (bytes : List ℕ) (header : Header) (numbers : List ℕ) : Type 0 where
   pub header_is : header ≡ header_of bytes
   pub rooted : Rooted (game_of bytes)
-  pub moves_lead_on_lem : T (moves_lead_on_of (game_of bytes))
+  pub moves_lead_on : T (moves_lead_on_of (game_of bytes))
   pub decoded : Decoded (game_of bytes) numbers
 
 -- After the sequences are numbered: how many there are, and by number the first of each set and both players' own to each node.

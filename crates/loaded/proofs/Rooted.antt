@@ -40,7 +40,7 @@ module _ {g : Game} (L : GameLimits g) where
         parents = λ n l. (joined.1 n l).0;
         at_move = λ n l. (joined.1 n l).1;
         few_moves = count_small sets payloads.0 payloads.1;
-        set_moves_lem = λ h l. (sets h l).1;
+        set_moves = λ h l. (sets h l).1;
         decision_set = payloads.0;
       }
 
@@ -54,6 +54,6 @@ module _ {g : Game} (L : GameLimits g) where
     parents = r.parents;
     at_move = r.at_move;
     few_moves = count_small r.set_moves r.decision_set r.chance_moves;
-    set_moves_lem = λ h l. (r.set_moves h l).1;
+    set_moves = λ h l. (r.set_moves h l).1;
     decision_set = r.decision_set;
   }

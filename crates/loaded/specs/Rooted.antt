@@ -12,5 +12,5 @@ pub record Rooted (g : Game) : Type 0 where
   pub parents : (n : ℕ) → suc n < g.nodes → g.parent (suc n) < suc n
   pub at_move : (n : ℕ) → suc n < g.nodes → g.move (suc n) < node_moves g (g.parent (suc n))
   pub few_moves : (n : ℕ) → n < g.nodes → node_moves g n ≤ 64
-  pub set_moves_lem : (h : ℕ) → h < g.sets → g.set_moves h ≤ 64
+  pub set_moves : (h : ℕ) → h < g.sets → g.set_moves h ≤ 64
   pub decision_set : (n : ℕ) → n < g.nodes → g.kind n ≡ 1 → g.node_set n < g.sets

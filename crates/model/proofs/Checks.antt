@@ -65,10 +65,10 @@ module _ (bytes : List ℕ) where
         rules = record {
           some_node = counts.0;
           some_weight = counts.1;
-          set_moves_lem = (set_moves_iff g).holds t5;
+          set_moves = (set_moves_iff g).holds t5;
           kinds = records.0;
           decision_set = payloads.0;
-          chance_moves_lem = payloads.1;
+          chance_moves = payloads.1;
           root = (attached.0.0, attached.0.1, weights.0.1.0);
           parents = parents;
           at_move = λ n l. (attached.1 n l).1;

@@ -24,26 +24,26 @@ use Rattle.model.proofs.Calls.Tolerance as Tolerance
 
 pub demand1 : Demand1
 demand1 = record {
-  check_game_lem = CheckGame.demand1;
-  set_entry_lem = SetEntry.demand1;
-  node_record_lem = NodeRecord.demand1;
-  own_sequence_lem = OwnSequence.demand1;
-  game_fields_lem = GameFields.demand1;
-  check_plan_lem = CheckPlan.demand1;
-  plan_fields_lem = PlanFields.demand1;
-  payoff_rows_lem = PayoffTable.rows_demand1;
-  payoff_table_lem = PayoffTable.columns_demand1;
+  check_game = CheckGame.demand1;
+  set_entry = SetEntry.demand1;
+  node_record = NodeRecord.demand1;
+  own_sequence = OwnSequence.demand1;
+  game_fields = GameFields.demand1;
+  check_plan = CheckPlan.demand1;
+  plan_fields = PlanFields.demand1;
+  payoff_rows = PayoffTable.rows_demand1;
+  payoff_table = PayoffTable.columns_demand1;
   values = Values.demand1;
   verdict = Verdict.demand1;
   report = Report.demand1;
-  refusal_line_lem = RefusalLine.demand1;
-  write_game_lem = WriteGame.demand1;
-  write_plan_lem = WritePlan.demand1;
-  rewrite_game_lem = RewriteGame.demand1;
-  rewrite_plan_lem = RewritePlan.demand1;
-  reread_game_lem = RereadGame.demand1;
-  reread_plan_lem = RereadPlan.demand1;
-  plan_from_sheet_lem = PlanFromSheet.demand1;
-  sheet_from_plan_lem = SheetFromPlan.demand1;
+  refusal_line = RefusalLine.demand1;
+  write_game = WriteGame.demand1;
+  write_plan = WritePlan.demand1;
+  rewrite_game = RewriteGame.demand1;
+  rewrite_plan = RewritePlan.demand1;
+  reread_game = RereadGame.demand1;
+  reread_plan = RereadPlan.demand1;
+  plan_from_sheet = PlanFromSheet.demand1;
+  sheet_from_plan = SheetFromPlan.demand1;
   tolerates = Tolerance.demand1;
 }

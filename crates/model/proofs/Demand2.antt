@@ -13,17 +13,17 @@ use Rattle.model.proofs.Calls.RereadPlan as RereadPlan
 
 round_trips : RoundTrips
 round_trips = record {
-  game_file_lem = RewriteGame.demand2;
+  game_file = RewriteGame.demand2;
   plan_file = RewritePlan.demand2;
-  game_fields_lem = RereadGame.demand2;
-  plan_fields_lem = RereadPlan.demand2;
+  game_fields = RereadGame.demand2;
+  plan_fields = RereadPlan.demand2;
 }
 
 pub demand2 : Demand2
 demand2 = record {
   game = λ game file. game_form (game_of game) file.rules;
   pair = λ game plan good. pair_form (game_of game) good.0.rules (plan_pair_of (game_of game) plan) good.1.fit;
-  own_sequence_lem = OwnSequence.demand2;
+  own_sequence = OwnSequence.demand2;
   values = Values.demand2;
   theorem266 = theorem266;
   trips = round_trips;

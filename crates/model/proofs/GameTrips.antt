@@ -1,6 +1,6 @@
 -- Round trips of the game file: what the writer takes is read back, and what is read is written again.
 use Prim.Native.Nat.{ℕ, zero, suc, ◌+◌, ◌*◌, ◌<◌}
-use mathlib.Core.Path.{◌≡◌, refl, sym, ap, ◌∙◌}
+use mathlib.Core.Path.{◌≡◌, refl, sym, ap, subst, ◌∙◌}
 use mathlib.Core.Logic.{◌↔◌}
 use mathlib.Core.Bool.{Bool, true, false, cond}
 use mathlib.Core.List.{List, [], ◌∷◌, ◌++◌, append_assoc, append-nil}
@@ -139,8 +139,8 @@ module _ (t : GameFields) (fit : FieldRules t) where
             let (before, rest) = whole.0 s in
             let (first, second) = front.0 before in
             let holds = header.0 first in
-            record { header = holds; set = sets.0 second; node = λ n l. rw (node_place bytes (set_count t) holds.1.1.0 n) (nodes.0 rest n l) }),
-        (λ r. whole.1 (front.1 (header.1 r.header, sets.1 r.set), nodes.1 (λ n l. rw (node_place bytes (set_count t) r.header.1.1.0 n) at (r.node n l)))),
+            record { header = holds; set = sets.0 second; node = λ n l. subst (λ (at : ℕ). Holds bytes at 0 (node_cells t n)) (sym (node_place bytes (set_count t) holds.1.1.0 n)) (nodes.0 rest n l) }),
+        (λ r. whole.1 (front.1 (header.1 r.header, sets.1 r.set), nodes.1 (λ n l. subst (λ (at : ℕ). Holds bytes at 0 (node_cells t n)) (node_place bytes (set_count t) r.header.1.1.0 n) (r.node n l)))),
       )
 
 -- what node n of the game has by its kind is what the lists have

@@ -52,7 +52,7 @@ module _ (width : ℕ) where
   pub run_at : (numbers : List ℕ) (q : ℕ) → 0 < width → q / width < length numbers → get_or (run_bits width numbers) q 0 ≡ get_or numbers (q / width) 0 / 2 ^ (width - suc (q % width)) % 2
   run_at numbers q w l =
       let place : width * (q / width) + q % width ≡ q = NatL.div-add-mod q width in
-      let m = NatL.mod_lt q w in
+      let m = NatL.mod-lt q w in
       let is = run_bit_lem numbers (q / width) (q % width) l m ∙ bits_at width (get_or numbers (q / width) 0) (q % width) m in
       rw place at is
 

@@ -46,18 +46,18 @@ module _ (t : GameFields) where
   fits : FieldRules t → FieldsFit t
   unfolding set_count node_count
   fits f = record {
-    root_weight_lem = f.root_weight;
-    set_players_lem = f.set_players;
-    set_moves_lem = f.set_moves.1;
+    root_weight = f.root_weight;
+    set_players = f.set_players;
+    set_moves = f.set_moves.1;
     parents = f.parents.1;
     moves = f.moves.1;
     weights = f.weights.1;
-    node_sets_lem = f.node_sets.1;
-    chance_moves_lem = f.chance_moves.1;
+    node_sets = f.node_sets.1;
+    chance_moves = f.chance_moves.1;
     payoffs1 = λ i. in_range_lem (get_or t.payoffs1 i (pos 0)) (f.payoffs1.1 i);
     payoffs2 = λ i. in_range_lem (get_or t.payoffs2 i (pos 0)) (f.payoffs2.1 i);
-    set_count_lem = f.sets;
-    node_count_lem = f.nodes;
+    set_count = f.sets;
+    node_count = f.nodes;
     kinds = λ n l. kind_below t (item t.kinds n) n (f.kinds n l);
     only_decisions = λ n l. (lacking (item t.kinds n) n (f.kinds n l)).0;
     only_chance = λ n l. (lacking (item t.kinds n) n (f.kinds n l)).1;

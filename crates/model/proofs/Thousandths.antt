@@ -33,6 +33,6 @@ parts_fit count base s h =
     let quotient : count / base < 65537 = (NatL.div-lt_iff_lt-mul {k = base} {x = count} {y = 65537} s).1 (omega arith) in
     record {
       whole = omega arith;
-      rest = omega (arith, NatL.mod_lt count s);
+      rest = omega (arith, NatL.mod-lt count s);
       sum = (up_at_most count base 65536000 s).1 (omega arith);
     }

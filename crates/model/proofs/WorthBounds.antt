@@ -180,7 +180,7 @@ module _ (g : Game) (p : Player) (y : RealizationPlan) where
         let a4 = count_le g.sets (λ h. only (leads_to g p s h) (nat_abs (w h))) (λ h. only (leads_to g p s h) (total_to (g.set_moves h) (λ m. size (extended (leading g h) h m)))) (λ h v. only_le (leads_to g p s h) _ _ (λ t. greatest_size f b h v)) in
         let a5 = sizes_on s in
         let a6 = count_plus N same_at on in
-        let a7 = count_le N (λ n. same_at n + on n) (λ n. leaf_size n * only (is_prefix s (own_sequence_of g p n)) 1) (λ n v. omega (arith, NatL.mul_add (leaf_size n) (only (same (own_sequence_of g p n) s) 1) (going_on g p s (own_sequence_of g p n)), NatL.mul-le-mul_left (leaf_size n) (met_once g p s (own_sequence_of g p n)))) in
+        let a7 = count_le N (λ n. same_at n + on n) (λ n. leaf_size n * only (is_prefix s (own_sequence_of g p n)) 1) (λ n v. omega (arith, NatL.mul-add (leaf_size n) (only (same (own_sequence_of g p n) s) 1) (going_on g p s (own_sequence_of g p n)), NatL.mul-le-mul_left (leaf_size n) (met_once g p s (own_sequence_of g p n)))) in
         omega (arith, a, a1, a2, a3, a4, a5, a6, a7)
 
     worth_size : (f : ℕ) (s : Sequence) → nat_abs (worth_in g p y f s) ≤ size s

@@ -40,25 +40,25 @@ abbrev pub InGame : (count : Game → ℕ) → Asked → Type 0
 InGame count a = GameFile a.game × (a.number < count (game_of a.game))
 
 pub record Demand1 : Type 0 where
-  pub check_game_lem : Clause CheckGame.call GameFile
-  pub set_entry_lem : Clause SetEntry.call (InGame (λ g. g.sets))
-  pub node_record_lem : Clause NodeRecord.call (InGame (λ g. g.nodes))
-  pub own_sequence_lem : Clause OwnSequence.call (InGame (λ g. g.sets))
-  pub game_fields_lem : Clause GameFields.call GameFile
-  pub check_plan_lem : Clause CheckPlan.call GoodFiles
-  pub plan_fields_lem : Clause PlanFields.call GoodFiles
-  pub payoff_rows_lem : Clause PayoffTable.rows_call GameFile
-  pub payoff_table_lem : Clause PayoffTable.columns_call GameFile
+  pub check_game : Clause CheckGame.call GameFile
+  pub set_entry : Clause SetEntry.call (InGame (λ g. g.sets))
+  pub node_record : Clause NodeRecord.call (InGame (λ g. g.nodes))
+  pub own_sequence : Clause OwnSequence.call (InGame (λ g. g.sets))
+  pub game_fields : Clause GameFields.call GameFile
+  pub check_plan : Clause CheckPlan.call GoodFiles
+  pub plan_fields : Clause PlanFields.call GoodFiles
+  pub payoff_rows : Clause PayoffTable.rows_call GameFile
+  pub payoff_table : Clause PayoffTable.columns_call GameFile
   pub values : Clause Values.call GoodFiles
   pub verdict : Clause Verdict.call GoodFiles
   pub report : Clause Report.call GoodFiles
-  pub refusal_line_lem : Clause RefusalLine.call (λ number. Unit {0})
-  pub write_game_lem : Clause WriteGame.call FieldsFit
-  pub write_plan_lem : Clause WritePlan.call PlanFieldsFit
-  pub rewrite_game_lem : Clause RewriteGame.call GameFile
-  pub rewrite_plan_lem : Clause RewritePlan.call GoodFiles
-  pub reread_game_lem : Clause RereadGame.call (λ t. FieldsFit t × GameFile (game_bytes t))
-  pub reread_plan_lem : Clause RereadPlan.call (λ t. PlanFieldsFit t.fields × GoodFiles (RereadPlan.files_of t))
-  pub plan_from_sheet_lem : (width limit : ℕ) → Clause (PlanFromSheet.call width limit) (PlanFromSheet.GoodSheet width limit)
-  pub sheet_from_plan_lem : (width : ℕ) → Clause (SheetFromPlan.call width) GoodFiles
+  pub refusal_line : Clause RefusalLine.call (λ number. Unit {0})
+  pub write_game : Clause WriteGame.call FieldsFit
+  pub write_plan : Clause WritePlan.call PlanFieldsFit
+  pub rewrite_game : Clause RewriteGame.call GameFile
+  pub rewrite_plan : Clause RewritePlan.call GoodFiles
+  pub reread_game : Clause RereadGame.call (λ t. FieldsFit t × GameFile (game_bytes t))
+  pub reread_plan : Clause RereadPlan.call (λ t. PlanFieldsFit t.fields × GoodFiles (RereadPlan.files_of t))
+  pub plan_from_sheet : (width limit : ℕ) → Clause (PlanFromSheet.call width limit) (PlanFromSheet.GoodSheet width limit)
+  pub sheet_from_plan : (width : ℕ) → Clause (SheetFromPlan.call width) GoodFiles
   pub tolerates : (t : ℕ) → Clause (Tolerance.call t) GoodFiles

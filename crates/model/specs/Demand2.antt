@@ -76,7 +76,7 @@ pub record GameForm (g : Game) : Type 0 where
   pub recall : (h n : ℕ) → h < g.sets → n < g.nodes → T (in_set g h n) → own_sequence_of g (g.set_player h) n ≡ leading g h
   -- the number of an own sequence, to a node or leading to a set, is its place among the player's
   pub by_number : (p : Player) (n : ℕ) → n < g.nodes → IsNumber g p (own_number g p n) (own_sequence_of g p n)
-  pub leading_number_lem : (h : ℕ) → h < g.sets → IsNumber g (g.set_player h) (leading_number g h) (leading g h)
+  pub leading_number : (h : ℕ) → h < g.sets → IsNumber g (g.set_player h) (leading_number g h) (leading g h)
   -- "one row for each pair of sequences at which some leaf stands", and no other row
   pub table_rows : (s t : ℕ) → HasRow g s t ↔ HasLeaf g s t
   -- "sorted by player 1's sequence, then player 2's": strictly, so that no pair has two rows
@@ -134,18 +134,18 @@ IsBytes bytes = (i : ℕ) → get_or bytes i 0 < 256
 -- the file's own bytes or the very fields that were given.
 pub record RoundTrips : Type 0 where
   -- "Writing the fields of an accepted file gives its bytes again"
-  pub game_file_lem : (game out : List ℕ) → IsBytes game → GameFile game → write_game_of (fields_of (game_of game)) out ≡ rewrite_game_of game out
+  pub game_file : (game out : List ℕ) → IsBytes game → GameFile game → write_game_of (fields_of (game_of game)) out ≡ rewrite_game_of game out
   pub plan_file : (game plan out : List ℕ) → IsBytes plan → GoodFiles (files game plan) → let g = game_of game in let q = plan_pair_of g plan in write_plan_of (q one).denominator (q two).denominator (plan_weights g plan) out ≡ rewrite_plan_of game plan out
   -- "fields whose written file is accepted are read back as they were given"
-  pub game_fields_lem : (t : GameFields) (buffers : Buffers shape) → FieldsFit t → GameFile (game_bytes t) → game_fields_of (game_bytes t) buffers ≡ reread_game_of t buffers
-  pub plan_fields_lem : (game : List ℕ) (d1 d2 : ℕ) (w out : List ℕ) → PlanFieldsFit (Writing.plan_fields_of d1 d2 w) → GoodFiles (files game (plan_bytes d1 d2 w)) → plan_fields_of game (plan_bytes d1 d2 w) out ≡ reread_plan_of game d1 d2 w out
+  pub game_fields : (t : GameFields) (buffers : Buffers shape) → FieldsFit t → GameFile (game_bytes t) → game_fields_of (game_bytes t) buffers ≡ reread_game_of t buffers
+  pub plan_fields : (game : List ℕ) (d1 d2 : ℕ) (w out : List ℕ) → PlanFieldsFit (Writing.plan_fields_of d1 d2 w) → GoodFiles (files game (plan_bytes d1 d2 w)) → plan_fields_of game (plan_bytes d1 d2 w) out ≡ reread_plan_of game d1 d2 w out
 
 pub record Demand2 : Type 0 where
   -- "Own sequences, perfect recall, payoff table, plan, value and best value are those of the sequence form of extensive games"
   pub game : (game : List ℕ) → GameFile game → GameForm (game_of game)
   pub pair : (game plan : List ℕ) → GoodFiles (files game plan) → PairForm (game_of game) (plan_pair_of (game_of game) plan)
   -- "computed without loss": calls give them exactly
-  pub own_sequence_lem : (game : List ℕ) (set : ℕ) → GivesLeading game set (OwnSequence.own_sequence_of game set)
+  pub own_sequence : (game : List ℕ) (set : ℕ) → GivesLeading game set (OwnSequence.own_sequence_of game set)
   pub values : (game plan : List ℕ) → GivesValues game plan (values_call game plan)
   -- "document 003, Theorem 2.66, decides"
   pub theorem266 : Theorem266

@@ -19,13 +19,13 @@ pub record GameRules (g : Game) : Type 0 where
   pub some_node : 0 < g.nodes
   pub some_weight : 0 < g.root_weight
   -- a set entry: "move count (7 bits, 1 to 64)"
-  pub set_moves_lem : (h : ℕ) → h < g.sets → (1 ≤ g.set_moves h) × (g.set_moves h ≤ 64)
+  pub set_moves : (h : ℕ) → h < g.sets → (1 ≤ g.set_moves h) × (g.set_moves h ≤ 64)
   -- a node record: "kind (2 bits: 0 leaf, 1 decision, 2 chance)"
   pub kinds : (n : ℕ) → n < g.nodes → g.kind n < 3
   -- a decision's payload "is its set number": one of the H sets
   pub decision_set : (n : ℕ) → n < g.nodes → g.kind n ≡ 1 → g.node_set n < g.sets
   -- a chance node's "is its move count (7 bits, 1 to 64)"
-  pub chance_moves_lem : (n : ℕ) → n < g.nodes → g.kind n ≡ 2 → (1 ≤ g.chance_moves n) × (g.chance_moves n ≤ 64)
+  pub chance_moves : (n : ℕ) → n < g.nodes → g.kind n ≡ 2 → (1 ≤ g.chance_moves n) × (g.chance_moves n ≤ 64)
   -- "Node 0 is the root: parent 0, move 0, weight D0."
   pub root : (g.parent 0 ≡ 0) × (g.move 0 ≡ 0) × (g.weight 0 ≡ g.root_weight)
   -- "Each other node's parent has a smaller number."
@@ -91,19 +91,19 @@ FitSigned l = (i : ℕ) → (neg_ℤ (pos 32768) ≤ℤ get_or l i (pos 0)) × (
 -- Fields that fit, for the game writer: one clause of 17 after the other.
 pub record FieldsFit (t : GameFields) : Type 0 where
   -- "A number given to a writer does not fit its field (too large, or too small for a signed one)"
-  pub root_weight_lem : t.root_weight < 2 ^ 12
-  pub set_players_lem : FitField 1 t.set_players
-  pub set_moves_lem : FitField 7 t.set_moves
+  pub root_weight : t.root_weight < 2 ^ 12
+  pub set_players : FitField 1 t.set_players
+  pub set_moves : FitField 7 t.set_moves
   pub parents : FitField 12 t.parents
   pub moves : FitField 6 t.moves
   pub weights : FitField 12 t.weights
-  pub node_sets_lem : FitField 12 t.node_sets
-  pub chance_moves_lem : FitField 7 t.chance_moves
+  pub node_sets : FitField 12 t.node_sets
+  pub chance_moves : FitField 7 t.chance_moves
   pub payoffs1 : FitSigned t.payoffs1
   pub payoffs2 : FitSigned t.payoffs2
   -- "or a table has more entries than its count can hold"
-  pub set_count_lem : length t.set_players < 2 ^ 12
-  pub node_count_lem : length t.kinds < 2 ^ 12
+  pub set_count : length t.set_players < 2 ^ 12
+  pub node_count : length t.kinds < 2 ^ 12
   -- "a node kind given to a writer is not 0 to 2"
   pub kinds : (n : ℕ) → n < length t.kinds → get_or t.kinds n 0 < 3
   -- "or a number that the node's kind lacks is given and not 0": only a decision has a set, a chance node moves, a leaf payoffs

@@ -1,4 +1,5 @@
 // The desk program's text, put into a lent buffer.
+#![tactic(auto)]
 use records::SetEntry;
 
 pub mod printing;

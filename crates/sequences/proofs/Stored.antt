@@ -41,7 +41,7 @@ pub filled_apart : {g : Game} {low high : ℕ} {l k : List ℕ} → OwnFilled g 
 filled_apart F a b = record {
   decoded = decoded_apart F.decoded a (omega arith);
   rooted = F.rooted;
-  sets_non_empty_lem = F.sets_non_empty;
+  sets_non_empty = F.sets_non_empty;
   first_nodes = held_before F.first_nodes a (omega (arith, F.decoded.few_sets));
   own = own_apart _ F.own a b F.decoded.few_nodes;
 }

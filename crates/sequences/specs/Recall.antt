@@ -22,7 +22,7 @@ pub record OwnStored (g : Game) (p : Player) (stored : ℕ) (numbers : List ℕ)
 pub record OwnFilled (g : Game) (numbers : List ℕ) : Type 0 where
   pub decoded : Decoded g numbers
   pub rooted : Rooted g
-  pub sets_non_empty_lem : T (sets_non_empty_of g)
+  pub sets_non_empty : T (sets_non_empty_of g)
   pub first_nodes : Held first_node_section (first_node g) g.sets numbers
   pub own : (p : Player) → Held (own_section_of p) (own_number g p) g.nodes numbers
 

@@ -13,5 +13,5 @@ sequence_counts g = record { first = sequence_count g one; second = sequence_cou
 -- What checks 8, 9 and 12 have shown: a player then has no more sequences than there are nodes, so that their numbers fit 16 bits.
 pub record Numberable (g : Game) : Type 0 where
   pub rooted : Rooted g
-  pub moves_lead_on_lem : T (moves_lead_on_of g)
-  pub sets_non_empty_lem : T (sets_non_empty_of g)
+  pub moves_lead_on : T (moves_lead_on_of g)
+  pub sets_non_empty : T (sets_non_empty_of g)

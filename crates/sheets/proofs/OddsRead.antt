@@ -35,7 +35,7 @@ odds_read g p width sheet l {before} {moves} {x} e b n room =
           let inside = moves_block g p h g.sets v.set v.owned in
           let w = v.move in
           let place : 1 + moves_before g p h + m ≡ 1 + i = omega arith in
-          let whole : width * before + width * i ≡ width * (weights_before g p + moves_before g p h + m) = ap (λ (k : ℕ). width * k + width * i) b ∙ sym (NatL.mul_add width (weights_before g p) i) ∙ ap (λ (k : ℕ). width * k) (sym (NatL.add_assoc (weights_before g p) (moves_before g p h) m)) in
+          let whole : width * before + width * i ≡ width * (weights_before g p + moves_before g p h + m) = ap (λ (k : ℕ). width * k + width * i) b ∙ sym (NatL.mul-add width (weights_before g p) i) ∙ ap (λ (k : ℕ). width * k) (sym (NatL.add_assoc (weights_before g p) (moves_before g p h) m)) in
           rw (e, place) (placed_from 0 1 run l i (omega arith) (omega (arith, size)))
           ∙ fields_at sheet (width * before) width moves i (omega arith)
           ∙ ap (λ (k : ℕ). field sheet k width) whole

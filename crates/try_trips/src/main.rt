@@ -1,4 +1,5 @@
 // Tries the round trips: the study game of document 003 with its plans M and F, files that are refused, and buffers that are too short.
+#![tactic(auto)]
 use checks::WriteAnswer;
 use fields::FieldsAnswer;
 use plans::WeightsAnswer;

@@ -1,4 +1,5 @@
 // The calls on a pair of files: values and best values, and the verdict.
+#![tactic(auto)]
 pub mod values;
 pub mod verdicts;
 

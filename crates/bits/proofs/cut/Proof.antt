@@ -14,7 +14,7 @@ rem_result c = omega (arith, pow_pos c.before.args.width)
 returns : tie.Need-returns
 returns c =
     let a = c.before.args in
-    rw c.power.ensures (refl, NatL.mod_lt (a.word / 2 ^ a.below) (pow_pos a.width))
+    rw c.power.ensures (refl, NatL.mod-lt (a.word / 2 ^ a.below) (pow_pos a.width))
 
 pub cut_spec : {M : Type 1} → statement M
 cut_spec = tie.close (tie.spec (λ c. search rules) (λ c κs. search rules) rem_result returns)

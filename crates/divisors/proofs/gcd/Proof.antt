@@ -30,6 +30,6 @@ gcd_spec =
     decreases_loop
     (λ c. refl)
     (λ c. omega arith)
-    (λ c. NatL.mod_lt c.before.loop.left {m = c.before.loop.right} (omega arith))
+    (λ c. NatL.mod-lt c.before.loop.left {m = c.before.loop.right} (omega arith))
     again
     returns)

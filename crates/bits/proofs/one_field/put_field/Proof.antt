@@ -20,7 +20,7 @@ long : (c : tie.At-loop invariant_loop decreases_loop) → length c.loop.out ≡
 long c = ap length c.loop.invariant.1 ∙ length_put _ _ _
 
 part : tie.Need-part-put-requires invariant_loop decreases_loop
-part c κs = (omega arith, rw c.before.power.ensures (NatL.mod_lt _ (pow_pos _)))
+part c κs = (omega arith, rw c.before.power.ensures (NatL.mod-lt _ (pow_pos _)))
 
 again : tie.Need-loop-preserved invariant_loop decreases_loop
 again c =
