@@ -3,7 +3,6 @@ use Prim.Native.Nat.{◌+◌, ◌^◌, ◌<◌}
 use mathlib.Core.Path.{◌≡◌}
 use mathlib.Core.Bool.{true, false, true≢false}
 use native.Mathlib.Omega.{arith}
-use borrow.Author.Rules.{rules}
 use borrow.Author.Tests.{ltb-true}
 use lib.Dec.{T}
 use lib.IntN.{ℤ, pos, negsuc, nat_abs, ◌-ℤ◌}
@@ -12,8 +11,8 @@ use mir.Syntax.{w64}
 use mir.Val.{SFits}
 use mir.Facts.{to_z-of_z}
 use Rattle.algebra.proofs.Integers.{to_eq, sub_is}
-use Rattle.text.proofs.amount.magnitude.Statement.{statement}
-use Rattle.text.proofs.amount.magnitude.Tie as tie
+use Rattle.text.proofs.amount.magnitude.Goals as goal
+use Rattle.text.proofs.amount.magnitude.Goals.{Then-count-lt0}
 
 -- what is left of a negative number below -1
 record Below (z : ℤ) : Type 0 where
@@ -38,30 +37,28 @@ positive_size : (z : ℤ) → SFits w64 z → lt_z z (pos 0) ≡ false → T (no
 positive_size (pos n) f e = (tt, omega (arith, f.sfits))
 positive_size (negsuc n) f e = absurd (true≢false e)
 
-left : (c : tie.Then1) → Below c.before.args.count
-left c = below c.before.args.count c.before.ranges.count (rw (to_z-of_z c.before.ranges.count) at c.if1.true)
+left : (c : Then-count-lt0) → Below c.args.count
+left c = below c.args.count c.ranges.count (rw (to_z-of_z c.ranges.count) at c.if-count-lt0.true)
 
-cast_result : tie.Need-overflow-cast-result
-cast_result c =
+pub overflow_cast-result : goal.overflow_cast-result
+overflow_cast-result c =
     let b = left c in
-    rw (to_z-of_z c.before.ranges.count, to_z-of_z b.fits) (b.positive, record { fits = omega (arith, b.few) })
+    rw (to_z-of_z c.ranges.count, to_z-of_z b.fits) (b.positive, record { fits = omega (arith, b.few) })
 
-add_result : tie.Need-overflow-add-result
-add_result c =
+pub overflow_add-result : goal.overflow_add-result
+overflow_add-result c =
     let b = left c in
-    rw (to_z-of_z c.before.ranges.count, to_z-of_z b.fits) (record { fits = omega (arith, b.few) })
+    rw (to_z-of_z c.ranges.count, to_z-of_z b.fits) (record { fits = omega (arith, b.few) })
 
-returns : tie.Need-returns
-returns c =
+pub returns-then-count-lt0 : goal.returns-then-count-lt0
+returns-then-count-lt0 c =
     let b = left c in
-    rw (to_z-of_z c.before.ranges.count, to_z-of_z b.fits) b.size
+    rw (to_z-of_z c.ranges.count, to_z-of_z b.fits) b.size
 
-cast_result_2 : tie.Need-overflow-cast-result-2
-cast_result_2 c =
-    let p = positive_size c.before.args.count c.before.ranges.count (rw (to_z-of_z c.before.ranges.count) at c.if1.false) in
-    rw (to_z-of_z c.before.ranges.count) (p.0, record { fits = omega (arith, p.1) })
+pub overflow_cast-result-2 : goal.overflow_cast-result-2
+overflow_cast-result-2 c =
+    let p = positive_size c.args.count c.ranges.count (rw (to_z-of_z c.ranges.count) at c.if-count-lt0.false) in
+    rw (to_z-of_z c.ranges.count) (p.0, record { fits = omega (arith, p.1) })
 
-pub magnitude_spec : {M : Type 1} → statement M
-magnitude_spec =
-    tie.close
-    (tie.spec (λ c. rw (to_z-of_z c.before.ranges.count) (left c).ranges) cast_result add_result returns cast_result_2 (λ c. search rules))
+pub overflow_sub-result : goal.overflow_sub-result
+overflow_sub-result c = rw (to_z-of_z c.ranges.count) (left c).fits
