@@ -23,7 +23,7 @@ pub widens : {z : ℤ} → SFits w16 z → SFits w64 (to_z w16 (of_z w16 z))
 widens f = rw (to_z-of_z f) (sfits_widen tt f)
 
 pub widened : {z : ℤ} → SFits w16 z → to_z w64 (of_z w64 (to_z w16 (of_z w16 z))) ≡ z
-widened f = rw (to_z-of_z f) (to_z-of_z (sfits_widen tt f))
+widened f = rw (to_z-of_z f) (to_z-of_z {w = w64} (sfits_widen tt f))
 
 -- a bit is its player's
 bit_player : (b : ℕ) → b ≤ 1 → b ≡ player_bit (player_of b)

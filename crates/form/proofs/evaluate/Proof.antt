@@ -31,10 +31,10 @@ returns c g L W =
     let given1 = best1.ensures g L W.weights2 in
     let given2 = best2.ensures g L W.weights1 in (
       values_are g s.args.x.now s.args.y.now
-          (to_z-of_z {w = w64} {z = value1.result} (record { sfits = value1.type-inv }) ∙ value1.ensures g L W)
-          (to_z-of_z {w = w64} {z = value2.result} (record { sfits = value2.type-inv }) ∙ value2.ensures g L W)
-          (to_z-of_z {w = w64} {z = best1.result} (record { sfits = best1.type-inv }) ∙ given1.0)
-          (to_z-of_z {w = w64} {z = best2.result} (record { sfits = best2.type-inv }) ∙ given2.0),
+          (to_z-of_z {w = w64} {z = value1.result} (record { sfits = value1.type_inv }) ∙ value1.ensures g L W)
+          (to_z-of_z {w = w64} {z = value2.result} (record { sfits = value2.type_inv }) ∙ value2.ensures g L W)
+          (to_z-of_z {w = w64} {z = best1.result} (record { sfits = best1.type_inv }) ∙ given1.0)
+          (to_z-of_z {w = w64} {z = best2.result} (record { sfits = best2.type_inv }) ∙ given2.0),
       given1.1,
       given2.1,
     )

@@ -12,10 +12,10 @@ returns : tie.Need-returns
 returns c =
     let a = c.before.before.before.before.before.before.before.before.before.before.before.args in
     let payoff = c.before.payoff in
-    to_z-of_z {w = w64} {z = c.weighed.result} (record { sfits = c.weighed.type-inv })
+    to_z-of_z {w = w64} {z = c.weighed.result} (record { sfits = c.weighed.type_inv })
     ∙ weighed_is c.weighed.ensures
     (pair_weight a.x.now a.y.now c.before.before.before.before.before.before.before.number.ensures.0 c.before.before.before.before.before.item.ensures.0 c.before.before.before.before.before.before.number2.ensures.0 c.before.before.before.item2.ensures.0 c.before.before.before.before.number3.ensures.0 c.before.before.product.ensures.0)
-    (to_z-of_z {w = w16} {z = payoff.result} (record { sfits = payoff.type-inv }) ∙ payoff.ensures)
+    (to_z-of_z {w = w16} {z = payoff.result} (record { sfits = payoff.type_inv }) ∙ payoff.ensures)
 
 pub pair_term_spec : {M : Type 1} → statement M
 pair_term_spec =

@@ -43,7 +43,7 @@ adds : (c : tie.After-pair-term invariant_loop decreases_loop) → let a = c.bef
 adds c n g L W e =
     let a = c.before.before.before.before.before.before.before.args in
     let p = player_of a.player in
-    value_more L W p c.before.before.loop.k (c.before.before.loop.invariant.1 n g L W e) (to_z-of_z {w = w64} {z = c.pair-term.result} (record { sfits = c.pair-term.type-inv }) ∙ pair_term_is L W p (omega arith) c.pair-term.ensures (payoffs_is a.counts p c.before.before.before.side.ensures))
+    value_more L W p c.before.before.loop.k (c.before.before.loop.invariant.1 n g L W e) (to_z-of_z {w = w64} {z = c.pair-term.result} (record { sfits = c.pair-term.type_inv }) ∙ pair_term_is L W p (omega arith) c.pair-term.ensures (payoffs_is a.counts p c.before.before.before.side.ensures))
 
 added_requires : tie.Need-added-requires invariant_loop decreases_loop
 added_requires c κs =
@@ -52,7 +52,7 @@ added_requires c κs =
     rw (adds c s.args.counts Q.game Q.loaded Q.weights refl) (value_fits Q.loaded Q.weights (player_of s.args.player) (c.before.before.loop.k + 1) (omega arith))
 
 loop_again : tie.Need-loop-preserved invariant_loop decreases_loop
-loop_again c = (omega arith, λ n g L W e. to_z-of_z {w = w64} {z = c.added.result} (record { sfits = c.added.type-inv }) ∙ c.added.ensures ∙ adds c.before n g L W e)
+loop_again c = (omega arith, λ n g L W e. to_z-of_z {w = w64} {z = c.added.result} (record { sfits = c.added.type_inv }) ∙ c.added.ensures ∙ adds c.before n g L W e)
 
 pub value_spec : {M : Type 1} → statement M
 value_spec =

@@ -16,8 +16,8 @@ returns c =
     let one = c.before.before.narrow in
     let two = c.narrow2 in
     rw (
-      to_z-of_z {w = w16} {z = one.result} (record { sfits = one.type-inv }),
-      to_z-of_z {w = w16} {z = two.result} (record { sfits = two.type-inv }),
+      to_z-of_z {w = w16} {z = one.result} (record { sfits = one.type_inv }),
+      to_z-of_z {w = w16} {z = two.result} (record { sfits = two.type_inv }),
       one.ensures,
       two.ensures,
       to_z-of_z (sfits_of c.before.before.before.narrow-arg.given),

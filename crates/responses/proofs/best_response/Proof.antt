@@ -36,7 +36,7 @@ returns c g L W =
     let call = c.before.before.before.before.before.before.worths in
     let plan = plan_by_number g (other p) (item s.args.y.now) in
     let given = call.ensures g plan (sums_held L p W (c.before.before.before.before.before.before.before.before.before.before.sums.ensures g L W)) in
-    (to_z-of_z {w = w64} {z = call.result} (record { sfits = call.type-inv }) ∙ given.0, c.before.before.best-moves.ensures g plan given.1)
+    (to_z-of_z {w = w64} {z = call.result} (record { sfits = call.type_inv }) ∙ given.0, c.before.before.best-moves.ensures g plan given.1)
 
 pub best_response_spec : {M : Type 1} → statement M
 best_response_spec =

@@ -9,8 +9,8 @@ made : tie.Need-returns
 made c i = record {
   sequence1 = c.before.before.before.row-sequence.ensures i;
   sequence2 = c.before.before.row-sequence2.ensures i;
-  sum1 = (to_z-of_z {w = w64} {z = c.before.row_sum.result} (record { sfits = c.before.row_sum.type-inv }) ∙ c.before.row_sum.ensures) i;
-  sum2 = (to_z-of_z {w = w64} {z = c.row-sum2.result} (record { sfits = c.row-sum2.type-inv }) ∙ c.row-sum2.ensures) i;
+  sum1 = (to_z-of_z {w = w64} {z = c.before.row_sum.result} (record { sfits = c.before.row_sum.type_inv }) ∙ c.before.row_sum.ensures) i;
+  sum2 = (to_z-of_z {w = w64} {z = c.row-sum2.result} (record { sfits = c.row-sum2.type_inv }) ∙ c.row-sum2.ensures) i;
 }
 
 pub row_at_spec : {M : Type 1} → statement M

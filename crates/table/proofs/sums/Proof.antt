@@ -22,7 +22,7 @@ loop_again : tie.Need-loop-preserved invariant_loop decreases_loop
 loop_again c =
     let p = c.before.before.before.before.before.before.before.requires in
     let inv = c.before.before.before.loop.invariant in
-    (filling_more (pos 0) _ _ _ _ _ _ inv.0 (omega arith) p.0 (to_z-of_z {w = w64} {z = c.before.row_sum.result} (record { sfits = c.before.row_sum.type-inv }) ∙ c.before.row_sum.ensures), filling_more (pos 0) _ _ _ _ _ _ inv.1 (omega arith) p.1 (to_z-of_z {w = w64} {z = c.row-sum2.result} (record { sfits = c.row-sum2.type-inv }) ∙ c.row-sum2.ensures))
+    (filling_more (pos 0) _ _ _ _ _ _ inv.0 (omega arith) p.0 (to_z-of_z {w = w64} {z = c.before.row_sum.result} (record { sfits = c.before.row_sum.type_inv }) ∙ c.before.row_sum.ensures), filling_more (pos 0) _ _ _ _ _ _ inv.1 (omega arith) p.1 (to_z-of_z {w = w64} {z = c.row-sum2.result} (record { sfits = c.row-sum2.type_inv }) ∙ c.row-sum2.ensures))
 
 pub sums_spec : {M : Type 1} → statement M
 sums_spec =

@@ -8,7 +8,7 @@ use Rattle.tolerance.proofs.gain_within.Statement.{statement}
 use Rattle.tolerance.proofs.gain_within.Tie as tie
 
 gain_is : (c : tie.After-gain) → let a = c.before.args in to_z w64 (of_z w64 c.gain.result) ≡ gain_of a.denominator a.best a.value
-gain_is c = to_z-of_z {w = w64} {z = c.gain.result} (record { sfits = c.gain.type-inv }) ∙ rw (to_z-of_z c.before.ranges.best, to_z-of_z c.before.ranges.value) at c.gain.ensures
+gain_is c = to_z-of_z {w = w64} {z = c.gain.result} (record { sfits = c.gain.type_inv }) ∙ rw (to_z-of_z c.before.ranges.best, to_z-of_z c.before.ranges.value) at c.gain.ensures
 
 returns : tie.Need-returns
 returns c = rw (gain_is c.before) at c.at_most.ensures

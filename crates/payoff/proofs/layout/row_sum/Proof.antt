@@ -12,7 +12,7 @@ use Rattle.payoff.proofs.layout.row_sum.Tie as tie
 returns : tie.Need-returns
 returns c =
     let a = c.before.before.before.before.before.before.args in
-    row_sum a.sorted.now a.bounds.now (section chance_section a.numbers.now) (section a.from a.payoffs.now) a.k c.before.before.item.ensures.0 c.before.item2.ensures.0 (to_z-of_z {w = w64} {z = c.leaf-sum.result} (record { sfits = c.leaf-sum.type-inv }) ∙ c.leaf-sum.ensures)
+    row_sum a.sorted.now a.bounds.now (section chance_section a.numbers.now) (section a.from a.payoffs.now) a.k c.before.before.item.ensures.0 c.before.item2.ensures.0 (to_z-of_z {w = w64} {z = c.leaf-sum.result} (record { sfits = c.leaf-sum.type_inv }) ∙ c.leaf-sum.ensures)
 
 leaf_sum_requires : tie.Need-leaf-sum-requires
 leaf_sum_requires c κs = rw (c.before.item.ensures.0, c.item2.ensures.0) c.before.before.before.before.before.requires.summable

@@ -15,8 +15,8 @@ returns : tie.Need-returns
 unfolding weighed_at
 returns c =
     let a = c.before.before.before.before.args in
-    to_z-of_z {w = w64} {z = c.weighed.result} (record { sfits = c.weighed.type-inv })
-    ∙ weighed_is c.weighed.ensures (c.before.before.number.ensures.0 ∙ sym (section_at chance_section a.numbers.now a.k 0)) (to_z-of_z {w = w16} {z = c.before.payoff.result} (record { sfits = c.before.payoff.type-inv }) ∙ c.before.payoff.ensures ∙ sym (section_at a.from a.payoffs.now a.k (pos 0)))
+    to_z-of_z {w = w64} {z = c.weighed.result} (record { sfits = c.weighed.type_inv })
+    ∙ weighed_is c.weighed.ensures (c.before.before.number.ensures.0 ∙ sym (section_at chance_section a.numbers.now a.k 0)) (to_z-of_z {w = w16} {z = c.before.payoff.result} (record { sfits = c.before.payoff.type_inv }) ∙ c.before.payoff.ensures ∙ sym (section_at a.from a.payoffs.now a.k (pos 0)))
 
 pub leaf_term_spec : {M : Type 1} → statement M
 leaf_term_spec =

@@ -43,10 +43,10 @@ values_put c = rw (to_z-of_z (value1_fits c.before), to_z-of_z (value2_fits c.be
 
 -- each best value is brought to the base by the player's own denominator
 best1_is : (c : tie.After-scaled-best) → to_z w64 (of_z w64 c.scaled-best.result) ≡ pos (start c.before.before.before.before).args.denominators.d1 *ℤ (start c.before.before.before.before).args.values.best1
-best1_is c = to_z-of_z (record { sfits = c.scaled-best.type-inv }) ∙ rw (to_z-of_z (best1_fits c.before)) at c.scaled-best.ensures
+best1_is c = to_z-of_z (record { sfits = c.scaled-best.type_inv }) ∙ rw (to_z-of_z (best1_fits c.before)) at c.scaled-best.ensures
 
 best2_is : (c : tie.After-scaled-best2) → to_z w64 (of_z w64 c.scaled-best2.result) ≡ pos (start c.before.before.before.before.before.before).args.denominators.d2 *ℤ (start c.before.before.before.before.before.before).args.values.best2
-best2_is c = to_z-of_z (record { sfits = c.scaled-best2.type-inv }) ∙ rw (to_z-of_z (best2_fits c.before)) at c.scaled-best2.ensures
+best2_is c = to_z-of_z (record { sfits = c.scaled-best2.type_inv }) ∙ rw (to_z-of_z (best2_fits c.before)) at c.scaled-best2.ensures
 
 returns : tie.Need-returns
 unfolding values_text ascii

@@ -18,10 +18,10 @@ weighed_requires c κs = omega (arith, two_weights c.before.before.number2.ensur
 returns : tie.Need-returns
 returns c =
     let a = c.before.before.before.before.before.before.before.args in
-    to_z-of_z {w = w64} {z = c.weighed.result} (record { sfits = c.weighed.type-inv })
+    to_z-of_z {w = w64} {z = c.weighed.result} (record { sfits = c.weighed.type_inv })
     ∙ weighed_is c.weighed.ensures
     (term_weight a.y.now c.before.before.before.number2.ensures.0 c.before.before.item.ensures.0 c.before.before.before.before.number.ensures.0)
-    (to_z-of_z {w = w16} {z = c.before.payoff.result} (record { sfits = c.before.payoff.type-inv }) ∙ c.before.payoff.ensures)
+    (to_z-of_z {w = w16} {z = c.before.payoff.result} (record { sfits = c.before.payoff.type_inv }) ∙ c.before.payoff.ensures)
 
 pub opponent_term_spec : {M : Type 1} → statement M
 opponent_term_spec =

@@ -94,7 +94,7 @@ adds c n g L W e =
     let a = c.before.before.before.before.before.before.before.before.before.before.before.args in
     let p = player_of a.player in
     let side = c.before.before.before.before.before.before.before.before.side.ensures in
-    rw (to_z-of_z {w = w64} {z = item_z c.before.before.before.before.loop.out c.before.before.number.result} (sfits_of c.before.added-arg.given), to_z-of_z {w = w64} {z = c.opponent-term.result} (record { sfits = c.opponent-term.type-inv }), term_is L p W (omega arith) c.opponent-term.ensures (opponent_is a.counts p side) (payoffs_is a.counts p side))
+    rw (to_z-of_z {w = w64} {z = item_z c.before.before.before.before.loop.out c.before.before.number.result} (sfits_of c.before.added-arg.given), to_z-of_z {w = w64} {z = c.opponent-term.result} (record { sfits = c.opponent-term.type_inv }), term_is L p W (omega arith) c.opponent-term.ensures (opponent_is a.counts p side) (payoffs_is a.counts p side))
 
 added_requires : tie.Need-added-requires invariant_loop decreases_loop
 added_requires c κs =
@@ -109,7 +109,7 @@ loop_again c =
     let s = c.before.before.before.before.before.before.before.before.before.before.before.before in (
       omega arith,
       simp length-set c.before.before.before.before.before.loop.invariant.1,
-      λ n g L W e q. turn_held L (player_of s.args.player) W (omega arith) (own_read c.before.before.before) (c.before.before.before.before.before.loop.invariant.2 n g L W e q) (to_z-of_z {w = w64} {z = c.added.result} (record { sfits = c.added.type-inv }) ∙ c.added.ensures ∙ adds c.before n g L W e),
+      λ n g L W e q. turn_held L (player_of s.args.player) W (omega arith) (own_read c.before.before.before) (c.before.before.before.before.before.loop.invariant.2 n g L W e q) (to_z-of_z {w = w64} {z = c.added.result} (record { sfits = c.added.type_inv }) ∙ c.added.ensures ∙ adds c.before n g L W e),
     )
 
 pub sums_spec : {M : Type 1} → statement M

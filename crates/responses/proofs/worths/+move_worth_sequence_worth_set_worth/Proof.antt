@@ -132,7 +132,7 @@ sequence_worth_add_sum t c =
     let call = c.before.set-worth in
     let in_sets : p.at < Q.game.sets = omega (arith, Q.ready.sets_are, c.before.before.before.loop-test.true) in
     let done = p.invariant.1 Q.game Q.player Q.plan Q.ready Q.is_sequence in
-    rw (to_z-of_z {w = w64} {z = call.result} (record { sfits = call.type-inv }))
+    rw (to_z-of_z {w = w64} {z = call.result} (record { sfits = call.type_inv }))
     (walk_fits (rules Q.ready) (limits Q.ready) Q.ready.sums_held.small Q.is_sequence in_sets done (call.ensures Q.game Q.player Q.plan Q.ready in_sets (led Q.game Q.player s.args.s p.at (done.here in_sets)).0))
 
 sequence_worth_number_requires_2 : (t : ℕ) → sequence-worth-lts.Need-number-requires-2 (number-reads.Asked, number-reads.Learnt, set_worth_below t, set-worth.Post) (sequence_worth_at t) sequence-worth.Post sequence_worth_Inv_loop sequence_worth_μ_loop
@@ -162,7 +162,7 @@ sequence_worth_loop_again t c =
       λ g p y W l.
           let in_sets : q.at < g.sets = omega (arith, W.sets_are, c.before.before.before.before.loop-test.true) in
           let done = q.invariant.1 g p y W l in
-          rw (to_z-of_z {w = w64} (sequence_worth_add_sum t c.before), to_z-of_z {w = w64} {z = call.result} (record { sfits = call.type-inv }))
+          rw (to_z-of_z {w = w64} (sequence_worth_add_sum t c.before), to_z-of_z {w = w64} {z = call.result} (record { sfits = call.type_inv }))
           (walk_step (next_set t c g p y W l) in_sets done (call.ensures g p y W in_sets (led g p s.args.s q.at (done.here in_sets)).0)),
     )
 
@@ -191,7 +191,7 @@ set_worth_loop_holds t c =
       omega arith,
       omega (arith, some_move s.requires.1.ready s.requires.1.is_set, moves_at s.requires.1.ready s.requires.1.is_set c.before.before.before.number2.ensures.0),
       refl,
-      λ g p y W l o. try_start s.args.h (to_z-of_z {w = w64} {z = call.result} (record { sfits = call.type-inv })) (move_stored W call.ensures s.args.h 0 l o (some_move W l) (omega (arith, start_at W l c.before.before.before.before.number.ensures.0))),
+      λ g p y W l o. try_start s.args.h (to_z-of_z {w = w64} {z = call.result} (record { sfits = call.type_inv })) (move_stored W call.ensures s.args.h 0 l o (some_move W l) (omega (arith, start_at W l c.before.before.before.before.number.ensures.0))),
     )
 
 set_worth_add_move_worth : (t : ℕ) → set-worth-lts.Need-overflow-add-move-worth (number-reads.Asked, number-reads.Learnt, move_worth_below t, move_worth_lem.Post, maximum-reads.Asked, maximum-reads.Learnt) (set_worth_at t) set-worth.Post set_worth_Inv_loop set_worth_μ_loop
@@ -224,7 +224,7 @@ set_worth_loop_again t c =
       omega (arith, c.before.before.before.before.loop-test.true),
       call.auto.1.1.0 ∙ q.invariant.2,
       λ g p y W l o.
-          rw (to_z-of_z {w = w64} {z = c.maximum.result} (record { sfits = c.maximum.type-inv }), c.maximum.ensures, to_z-of_z {w = w64} {z = call.result} (record { sfits = call.type-inv }))
+          rw (to_z-of_z {w = w64} {z = c.maximum.result} (record { sfits = c.maximum.type_inv }), c.maximum.ensures, to_z-of_z {w = w64} {z = call.result} (record { sfits = call.type_inv }))
           (try_step q.invariant.0 (q.invariant.3 g p y W l o) (move_stored W call.ensures a.h q.m l o (omega (arith, moves_at W l c.before.before.before.before.before.before.before.before.before.number2.ensures.0, c.before.before.before.before.loop-test.true)) (omega (arith, start_at W l c.before.before.before.before.before.before.before.before.before.before.number.ensures.0)))),
     )
 
@@ -251,7 +251,7 @@ pub +move-worth-sequence-worth-set-worth-spec : {M : Type 1} → statement M
     -- move-worth-same-length
     (λ c. c.before.sequence-worth.auto.1.1.0)
     -- move-worth-returns
-    (λ c. let call = c.before.sequence-worth in rw (to_z-of_z {w = w64} {z = call.result} (record { sfits = call.type-inv })) call.ensures)
+    (λ c. let call = c.before.sequence-worth in rw (to_z-of_z {w = w64} {z = call.result} (record { sfits = call.type_inv })) call.ensures)
     -- move-worth-mul-sum
     (λ c. let Q = c.before.before.before.requires.1 in omega (arith, sums_room Q.ready Q.is_sequence))
     -- move-worth-shared-slice-copy-out-sum

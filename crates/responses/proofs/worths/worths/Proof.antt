@@ -31,7 +31,7 @@ returns c g y H =
     let p = player_of s.args.player in
     let call = c.before.sequence-worth in
     let done = call.ensures g p y (record { counts = s.args.counts; sums_held = H; heads_are = heads_is s.args.counts p c.before.before.before.side.ensures; sets_are = sets_counted g H.loaded.counts_are }) (some_sequence g p) in
-    rw (to_z-of_z {w = w64} {z = call.result} (record { sfits = call.type-inv })) (worths_given H.loaded done (omega (arith, call.auto.1.1.0, s.requires.1)))
+    rw (to_z-of_z {w = w64} {z = call.result} (record { sfits = call.type_inv })) (worths_given H.loaded done (omega (arith, call.auto.1.1.0, s.requires.1)))
 
 pub worths_spec : {M : Type 1} → statement M
 worths_spec =
