@@ -44,7 +44,7 @@ impl<'a> Reader<'a> {
 }
 
 // Two fields in a row.
-#[derive(Drop)]
+#[derive(Clone, Copy)]
 pub struct Pair {
     pub first: u64,
     pub second: u64,

@@ -6,7 +6,7 @@ ghost use Rattle.checks.specs.Answers.{write_answered};
 ghost use Rattle.checks.specs.Checked.{checked_of, number_of};
 
 // The answer of one check: it holds, or the number of its refusal.
-#[derive(Drop)]
+#[derive(Clone, Copy)]
 pub enum Checked {
     Fine,
     Broken(u64),
@@ -55,7 +55,7 @@ pub fn room_and(size: usize, room: usize, later: bool) -> bool
 }
 
 // The answer of what puts bytes into a lent buffer: how many, or the refusal: 17 or 18 of a writer, 1 to 16 or 18 of the report, 18 of a refusal's line.
-#[derive(Drop)]
+#[derive(Clone, Copy)]
 pub enum WriteAnswer {
     Written(usize),
     Refused(u64),

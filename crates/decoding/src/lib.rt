@@ -14,7 +14,7 @@ use loaded::Section;
 use records::{Header, NodeRecord, Payload, SetEntry};
 
 // The answer to the node records: how many of them are leaves, or the number of their check.
-#[derive(Drop)]
+#[derive(Clone, Copy)]
 pub enum NodesAnswer {
     Leaves(usize),
     Broken(u64),

@@ -10,7 +10,7 @@ use pair::{PairAnswer, PairHeader};
 use records::NodeRecord;
 
 // What was read and evaluated of a pair; a refusal is 1 to 16.
-#[derive(Drop)]
+#[derive(Clone, Copy)]
 pub enum PairEvaluated {
     Evaluated { pair: PairHeader, values: Values },
     Refused(u64),

@@ -11,7 +11,7 @@ ghost use Rattle.fields.specs.Answers.{fields_answered};
 use checks::Checked;
 
 // N, H and D0 of a game whose fields stand in the lent buffers; a refusal is 1 to 13, or 18.
-#[derive(Drop)]
+#[derive(Clone, Copy)]
 pub enum FieldsAnswer {
     Given {
         nodes: u64,

@@ -11,14 +11,14 @@ use libc::EINTR;
 const TRIES: usize = 1000;
 
 // What a read or a write moves: so many bytes, none at the file's end.
-#[derive(Drop)]
+#[derive(Clone, Copy)]
 enum Part {
     Bytes(usize),
     Failed,
 }
 
 // What follows a read or a write: another one, with so many bytes before it, or the end, with so many in all.
-#[derive(Drop)]
+#[derive(Clone, Copy)]
 enum Next {
     More(usize),
     End(usize),

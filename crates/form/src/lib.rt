@@ -15,7 +15,7 @@ use slices::item;
 use slices::sums::{added, weighed};
 
 // Each player's value, over D0 × D1 × D2, and his best value, over D0 × the other's D.
-#[derive(Drop)]
+#[derive(Clone, Copy)]
 pub struct Values {
     pub value1: i64,
     pub value2: i64,

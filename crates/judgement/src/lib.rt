@@ -6,7 +6,7 @@ ghost use Rattle.judgement.specs.Judgement.{gain_of, judged, GainFits};
 pub mod strategy;
 
 // Nobody can gain; or the player, 1 or 2, and his gain over D0 × D1 × D2.
-#[derive(Drop)]
+#[derive(Clone, Copy)]
 pub enum Verdict {
     Equilibrium,
     Deviation { player_number: u64, gain: i64 },

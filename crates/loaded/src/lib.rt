@@ -9,7 +9,7 @@ ghost use Rattle.loaded.specs.SetSequences.{set_sequences_in};
 ghost use Rattle.loaded.specs.Counts.{side_of};
 
 // How much there is of each: nodes, sets, leaves and each player's sequences; and D0.
-#[derive(Drop)]
+#[derive(Clone, Copy)]
 pub struct Counts {
     pub nodes: usize,
     pub sets: usize,
@@ -21,7 +21,7 @@ pub struct Counts {
 
 // What one player's best response takes of a loaded game: his bit, where his own sequences and the other's stand by leaf,
 // where his payoffs begin and the first sets that his sequences lead to, and how many sequences he has.
-#[derive(Drop)]
+#[derive(Clone, Copy)]
 pub struct Side {
     pub player: usize,
     pub own: usize,
@@ -32,7 +32,7 @@ pub struct Side {
 }
 
 // The sequences of a set: the number of the first that ends in a move of it, how many do, and the number of the one that leads to it.
-#[derive(Drop)]
+#[derive(Clone, Copy)]
 pub struct SetSequences {
     pub start: usize,
     pub moves: usize,
@@ -67,7 +67,7 @@ impl Counts {
 }
 
 // Where each section begins.
-#[derive(Drop)]
+#[derive(Clone, Copy)]
 pub struct Section {
     pub at: usize,
 }

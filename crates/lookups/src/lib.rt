@@ -16,7 +16,7 @@ use records::{NodeRecord, Payload, SetEntry};
 use sequences::OwnSequence;
 
 // The answer to a game file: accepted, with N, H and D0, or the first refusal, 1 to 13.
-#[derive(Drop)]
+#[derive(Clone, Copy)]
 pub enum GameAnswer {
     Accepted {
         nodes: u64,
@@ -27,14 +27,14 @@ pub enum GameAnswer {
 }
 
 // The entry of an information set: its player, 0 for player 1 and 1 for player 2, and its move count; a refusal is 1 to 13, or 17.
-#[derive(Drop)]
+#[derive(Clone, Copy)]
 pub enum SetAnswer {
     Entry { player: u64, moves: u64 },
     Refused(u64),
 }
 
 // Where a node is in the tree, and its chance weight; `place` is its move at the parent.
-#[derive(Drop)]
+#[derive(Clone, Copy)]
 pub struct Place {
     pub parent: u64,
     pub place: u64,
@@ -42,7 +42,7 @@ pub struct Place {
 }
 
 // The record of a node, by its kind; a refusal is 1 to 13, or 17.
-#[derive(Drop)]
+#[derive(Clone, Copy)]
 pub enum NodeAnswer {
     Leaf {
         at: Place,
@@ -61,7 +61,7 @@ pub enum NodeAnswer {
 }
 
 // The own sequence leading to a set, by its number among the sequences of the set's player; a refusal is 1 to 13, or 17.
-#[derive(Drop)]
+#[derive(Clone, Copy)]
 pub enum SequenceAnswer {
     Sequence(OwnSequence),
     Refused(u64),

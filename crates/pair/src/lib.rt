@@ -12,14 +12,14 @@ use plan::PlanAnswer;
 use records::Denominators;
 
 // What is known of a pair that fits an accepted game: the game's counts and the denominators.
-#[derive(Drop)]
+#[derive(Clone, Copy)]
 pub struct PairHeader {
     pub counts: Counts,
     pub denominators: Denominators,
 }
 
 // The answer to a game file with a plan file.
-#[derive(Drop)]
+#[derive(Clone, Copy)]
 pub enum PairAnswer {
     Fits(PairHeader),
     Refused(u64),

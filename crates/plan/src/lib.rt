@@ -21,7 +21,7 @@ pub use format::weight_count;
 pub use order::put_weights;
 
 // The answer to a plan file, for a loaded game: its denominators.
-#[derive(Drop)]
+#[derive(Clone, Copy)]
 pub enum PlanAnswer {
     Fits(Denominators),
     Refused(u64),

@@ -10,7 +10,7 @@ ghost use Rattle.records.specs.Records.{header_of, header_with, header_bits, Set
 use bit_reader::Pair;
 
 // The header of a game file: the counts, D0, and the bit at which the node records begin.
-#[derive(Drop)]
+#[derive(Clone, Copy)]
 pub struct Header {
     pub edition: u64,
     pub nodes: usize,
@@ -104,7 +104,7 @@ impl Header {
 }
 
 // The entry of an information set.
-#[derive(Drop)]
+#[derive(Clone, Copy)]
 pub struct SetEntry {
     pub player: u64,
     pub moves: usize,
@@ -154,7 +154,7 @@ impl SetEntry {
 }
 
 // What a node's kind has; a number that it lacks is 0.
-#[derive(Drop)]
+#[derive(Clone, Copy)]
 pub struct Payload {
     pub set: usize,
     pub moves: usize,
@@ -305,7 +305,7 @@ impl Payload {
 }
 
 // The record of a node; `place` is its move at the parent.
-#[derive(Drop)]
+#[derive(Clone, Copy)]
 pub struct NodeRecord {
     pub kind: u64,
     pub parent: usize,

@@ -8,14 +8,14 @@ use super::game_file::NodeRecord;
 use bit_reader::Reader;
 
 // D1 and D2.
-#[derive(Drop)]
+#[derive(Clone, Copy)]
 pub struct Denominators {
     pub d1: u64,
     pub d2: u64,
 }
 
 // The header of a plan file.
-#[derive(Drop)]
+#[derive(Clone, Copy)]
 pub struct PlanHeader {
     pub edition: u64,
     pub denominators: Denominators,

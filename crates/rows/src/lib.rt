@@ -15,14 +15,14 @@ use loaded::Section;
 use payoff::layout::{lay_out, row_sequence, row_sum};
 
 // How many rows the payoff table has, which stand in what is lent; a refusal is 1 to 13, or 18.
-#[derive(Drop)]
+#[derive(Clone, Copy)]
 pub enum TableAnswer {
     Given { rows: u64 },
     Refused(u64),
 }
 
 // A row of the payoff table: the number of each player's sequence, and each player's sum.
-#[derive(Drop)]
+#[derive(Clone, Copy)]
 pub struct Row {
     pub sequence1: u64,
     pub sequence2: u64,

@@ -10,14 +10,14 @@ use records::Payload;
 const DECISION: usize = Payload::DECISION as usize;
 
 // How many sequences each player has.
-#[derive(Drop)]
+#[derive(Clone, Copy)]
 pub struct SequenceCounts {
     pub first: usize,
     pub second: usize,
 }
 
 // The own sequence that leads to a set, by its number.
-#[derive(Drop)]
+#[derive(Clone, Copy)]
 pub struct OwnSequence {
     pub number: u64,
 }

@@ -17,7 +17,7 @@ use loaded::{Counts, Section, SetSequences};
 use records::NodeRecord;
 
 // A probability, as a fraction of whole numbers.
-#[derive(Drop)]
+#[derive(Clone, Copy)]
 pub struct Probability {
     pub numerator: u64,
     pub denominator: u64,

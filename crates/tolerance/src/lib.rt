@@ -15,7 +15,7 @@ use records::{Denominators, NodeRecord};
 use verdict::verdicts;
 
 // A pair passes at a tolerance where no strategy of either player gains more; a refusal is 1 to 16.
-#[derive(Drop)]
+#[derive(Clone, Copy)]
 pub enum ToleranceAnswer {
     Passes,
     Fails,

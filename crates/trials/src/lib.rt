@@ -17,7 +17,7 @@ pub use output::{
 pub const ROOM: usize = Header::LONGEST_FILE + 1;
 
 // What a list's cases are tried for: their answers, or their answers with buffers of many lengths.
-#[derive(Drop)]
+#[derive(Clone, Copy)]
 pub enum Trial {
     Check,
     Rooms,

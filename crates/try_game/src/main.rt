@@ -7,14 +7,14 @@ use trials::{
 };
 
 // What a number is looked up as.
-#[derive(Drop)]
+#[derive(Clone, Copy)]
 enum Table {
     Sets,
     Nodes,
 }
 
 // How many sets and nodes a game has.
-#[derive(Drop)]
+#[derive(Clone, Copy)]
 struct Size {
     sets: u64,
     nodes: u64,

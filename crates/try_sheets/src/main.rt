@@ -17,7 +17,7 @@ const MOST: usize = 14;
 const HELD: u8 = 165;
 
 // What is made: a plan from a sheet, or a sheet from a plan.
-#[derive(Drop)]
+#[derive(Clone, Copy)]
 enum Made {
     Plan,
     Sheet,

@@ -30,7 +30,7 @@ const HELD: u8 = 165;
 const SHOWN: usize = 8;
 
 // What a case gives a writer.
-#[derive(Drop)]
+#[derive(Clone, Copy)]
 enum Kind {
     Game,
     Plan,
