@@ -18,7 +18,7 @@ fn maximum(a: i64, b: i64) -> i64
 
 // The worth of sequence `s`: that of its leaves, and that of each set it leads to. It is stored, as are those of all sequences after it.
 // The first sets that the player's sequences lead to begin at `heads`.
-#[cycle(move_worth_sequence_worth_set_worth)]
+#[cycle(worth)]
 fn sequence_worth(
     numbers: &[u16],
     sums: &[i64],
@@ -41,7 +41,7 @@ fn sequence_worth(
 }
 
 // The same, without a further call where the sequence leads to no set.
-#[cycle(move_worth_sequence_worth_set_worth)]
+#[cycle(worth)]
 fn move_worth(
     numbers: &[u16],
     sums: &[i64],
@@ -62,7 +62,7 @@ fn move_worth(
 }
 
 // The worth of set `h`: that of its worthiest move. The worths of all sequences after it are stored.
-#[cycle(move_worth_sequence_worth_set_worth)]
+#[cycle(worth)]
 fn set_worth(
     numbers: &[u16],
     sums: &[i64],

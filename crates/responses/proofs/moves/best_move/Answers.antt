@@ -1,6 +1,5 @@
 use Prim.Native.Nat.{◌+◌, ◌-◌}
 use mathlib.Core.Path.{◌≡◌}
-use mathlib.Core.Logic.{⊎_elim}
 use native.Mathlib.Omega.{arith}
 use borrow.Author.Rules.{sfits_of}
 use mir.Syntax.{w64}
@@ -9,6 +8,7 @@ use Rattle.algebra.specs.Arrays.{item_z}
 use Rattle.responses.specs.BestMoves.{best_stored}
 use Rattle.responses.proofs.Greatest.{foremost_one, foremost_new, foremost_old, foremost_is}
 use Rattle.responses.proofs.moves.best_move.Goals as goal
+use Rattle.responses.proofs.moves.best_move.Goals.{then-worths-start, else-worths-start}
 
 pub loop-m-preserved : goal.loop-m-preserved
 loop-m-preserved c =
@@ -18,10 +18,10 @@ loop-m-preserved c =
     let y = to_z-of_z {w = w64} {z = item_z a.worths.now (a.start + p.m)} (sfits_of c.t14-1.given) in (
       omega arith,
       omega arith,
-      ⊎_elim
-          (λ w. rw w.1 (foremost_new _ p.invariant.2 (rw (x, y) at w.0.taken)))
-          (λ w. rw w.1 (foremost_old _ p.invariant.2 (rw (x, y) at w.0.left)))
-          c.if-worths-start.branch,
+      elim c.if-worths-start.branch [
+        then-worths-start w ↦ rw w.best-is (foremost_new _ p.invariant.2 (rw (x, y) at w.if-worths-start.true))
+        | else-worths-start w ↦ rw w.best-is (foremost_old _ p.invariant.2 (rw (x, y) at w.if-worths-start.false))
+      ],
     )
 
 pub returns : goal.returns

@@ -28,4 +28,4 @@ returns c g y H =
     let p = player_of c.args.player in
     let call = c.sequence_worth in
     let done = call.ensures g p y (record { counts = c.args.counts; sums_held = H; heads_are = heads_is c.args.counts p c.side-side.ensures; sets_are = sets_counted g H.loaded.counts_are }) (some_sequence g p) in
-    rw (to_z-of_z {w = w64} {z = call.result} (record { sfits = call.type_inv })) (worths_given H.loaded done (omega (arith, call.auto.1.1.0, c.requires.1)))
+    rw (to_z-of_z {w = w64} {z = call.result} (record { sfits = call.type_inv })) (worths_given H.loaded done (omega (arith, call.auto.worths, c.requires.1)))
