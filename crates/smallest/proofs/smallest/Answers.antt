@@ -1,24 +1,11 @@
-use Prim.Native.Nat.{ℕ, ◌-◌, ◌≤◌}
-use mathlib.Core.Path.{◌≡◌, refl, ◌∙◌}
-use mathlib.Core.List.{List}
+use Prim.Native.Nat.{◌-◌}
+use mathlib.Core.Path.{refl, ◌∙◌}
 use native.Mathlib.Omega.{arith}
-use lib.ListN.{length}
 use borrow.Author.Rules.{rules}
-use Rattle.model.specs.Game.{Game, player_of}
-use Rattle.model.specs.Sheet.{Odds}
-use Rattle.loaded.specs.declared.Counts.{Counts}
-use Rattle.loaded.specs.Loaded.{NumbersLoaded}
+use Rattle.model.specs.Game.{player_of}
 use Rattle.plan.proofs.Refusals.{room}
-use Rattle.sheets.specs.OddsByNumber.{OddsByNumber}
-use Rattle.smallest.proofs.Orders.{Taken, taken_none, taken_all, taken_more, taken_stop, own_odds, own_odds_lem, asked_at}
+use Rattle.smallest.proofs.Orders.{taken_none, taken_all, taken_more, taken_stop, own_odds, own_odds_lem, asked_at}
 use Rattle.smallest.proofs.smallest.Goals as goal
-
--- What the loop keeps.
-pub record Kept (numbers : List ℕ) (sets player : ℕ) (odds numerators₀ denominators₀ : List ℕ) (limit : ℕ) (numerators denominators : List ℕ) (multiple i : ℕ) : Type 0 where
-  pub few : i ≤ sets
-  pub long1 : length numerators ≡ length numerators₀
-  pub long2 : length denominators ≡ length denominators₀
-  pub taken : (g : Game) → (c : Counts) → (given : Odds) → (L : NumbersLoaded g c numbers) → sets ≡ g.sets → OddsByNumber g (player_of player) given odds → Taken L.rules given (player_of player) limit i multiple numerators denominators
 
 pub loop-i-init : goal.loop-i-init
 loop-i-init c =
@@ -37,8 +24,8 @@ loop-i-preserved c =
     let next = c.next_multiple-multiple in
     record {
       few = omega arith;
-      long1 = next.auto.1.1.1.1.0 ∙ inv.long1;
-      long2 = next.auto.1.1.1.1.1.0 ∙ inv.long2;
+      long1 = next.auto.numerators ∙ inv.long1;
+      long2 = next.auto.denominators ∙ inv.long2;
       taken = λ g n given L e X.
           let K = inv.taken g n given L e X in
           taken_more L.rules given _ K (omega arith) (next.ensures g n given L (omega arith) X K.probabilities) c.if-multiple-eq0.false;
