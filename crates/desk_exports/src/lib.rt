@@ -135,8 +135,8 @@ pub extern "C" fn desk_verdict(
     count: &mut u64,
     moves: &mut [u64],
 ) -> u64
-    ensures tt_after { leaves result (numbers player.new gain.new base.new count.new) (moves.new, tt) ≡ verdict_numbers game.now plan.now (numbers player.old gain.old base.old count.old) moves.old }
-    ensures demand3met_in { Demand3MetIn game.now plan.now moves.old (leaves result (numbers player.new gain.new base.new count.new) (moves.new, tt)) }
+    ensures equation { leaves result (numbers player.new gain.new base.new count.new) (moves.new, tt) ≡ verdict_numbers game.now plan.now (numbers player.old gain.old base.old count.old) moves.old }
+    ensures promise { Demand3MetIn game.now plan.now moves.old (leaves result (numbers player.new gain.new base.new count.new) (moves.new, tt)) }
 {
     exported_verdict::verdict(game, plan, player, gain, base, count, moves)
 }
@@ -145,8 +145,8 @@ pub extern "C" fn desk_verdict(
 // neither player has a strategy that gains more than `tolerance` / 1000, else 0.
 #[unsafe(no_mangle)]
 pub extern "C" fn desk_tolerates(game: &[u8], plan: &[u8], tolerance: u16, passes: &mut u64) -> u64
-    ensures tt_after { leaves result passes.new tt ≡ exported passes_number passes.old (tolerates tolerance game.now plan.now) }
-    ensures tolerance_met { ToleranceMet tolerance game.now plan.now (answer_in (leaves result passes.new tt)) }
+    ensures equation { leaves result passes.new tt ≡ exported passes_number passes.old (tolerates tolerance game.now plan.now) }
+    ensures promise { ToleranceMet tolerance game.now plan.now (answer_in (leaves result passes.new tt)) }
 {
     exported_tolerance::tolerates(game, plan, tolerance, passes)
 }
@@ -177,8 +177,8 @@ pub extern "C" fn desk_plan_from_sheet(
     out: &mut [u8],
     size: &mut u64,
 ) -> u64
-    ensures tt_after { leaves result size.new (out.new, tt) ≡ exported same size.old (plan_from_sheet_of game.now sheet.now out.old) }
-    ensures makes_in { MakesIn weight_width largest_denominator (sheet_files game.now sheet.now) out.old (leaves result size.new (out.new, tt)) }
+    ensures equation { leaves result size.new (out.new, tt) ≡ exported same size.old (plan_from_sheet_of game.now sheet.now out.old) }
+    ensures promise { MakesIn weight_width largest_denominator (sheet_files game.now sheet.now) out.old (leaves result size.new (out.new, tt)) }
 {
     exported_sheets::plan_from_sheet(game, sheet, out, size)
 }
@@ -191,8 +191,8 @@ pub extern "C" fn desk_sheet_from_plan(
     out: &mut [u8],
     size: &mut u64,
 ) -> u64
-    ensures tt_after { leaves result size.new (out.new, tt) ≡ exported same size.old (sheet_from_plan_of game.now plan.now out.old) }
-    ensures returns_in { ReturnsIn weight_width largest_denominator (files game.now plan.now) out.old (leaves result size.new (out.new, tt)) }
+    ensures equation { leaves result size.new (out.new, tt) ≡ exported same size.old (sheet_from_plan_of game.now plan.now out.old) }
+    ensures promise { ReturnsIn weight_width largest_denominator (files game.now plan.now) out.old (leaves result size.new (out.new, tt)) }
 {
     exported_sheets::sheet_from_plan(game, plan, out, size)
 }

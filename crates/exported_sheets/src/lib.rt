@@ -10,8 +10,8 @@ ghost use Rattle.model.specs.Calls.SheetFromPlan.{ReturnsIn, sheet_from_plan_of}
 
 // The plan file goes to the buffer, its length to the lent number.
 pub fn plan_from_sheet(game: &[u8], sheet: &[u8], out: &mut [u8], size: &mut u64) -> u64
-    ensures tt_after { leaves result size.new (out.new, tt) ≡ exported same size.old (plan_from_sheet_of game.now sheet.now out.old) }
-    ensures makes_in { MakesIn weight_width largest_denominator (sheet_files game.now sheet.now) out.old (leaves result size.new (out.new, tt)) }
+    ensures equation { leaves result size.new (out.new, tt) ≡ exported same size.old (plan_from_sheet_of game.now sheet.now out.old) }
+    ensures promise { MakesIn weight_width largest_denominator (sheet_files game.now sheet.now) out.old (leaves result size.new (out.new, tt)) }
 {
     let answer = from_sheet::plan_from_sheet(game, sheet, out);
     match answer {
@@ -25,8 +25,8 @@ pub fn plan_from_sheet(game: &[u8], sheet: &[u8], out: &mut [u8], size: &mut u64
 
 // The sheet goes to the buffer, its length to the lent number.
 pub fn sheet_from_plan(game: &[u8], plan: &[u8], out: &mut [u8], size: &mut u64) -> u64
-    ensures tt_after { leaves result size.new (out.new, tt) ≡ exported same size.old (sheet_from_plan_of game.now plan.now out.old) }
-    ensures returns_in { ReturnsIn weight_width largest_denominator (files game.now plan.now) out.old (leaves result size.new (out.new, tt)) }
+    ensures equation { leaves result size.new (out.new, tt) ≡ exported same size.old (sheet_from_plan_of game.now plan.now out.old) }
+    ensures promise { ReturnsIn weight_width largest_denominator (files game.now plan.now) out.old (leaves result size.new (out.new, tt)) }
 {
     let answer = to_sheet::sheet_from_plan(game, plan, out);
     match answer {

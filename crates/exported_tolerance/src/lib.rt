@@ -7,8 +7,8 @@ ghost use Rattle.model.specs.Calls.Tolerance.{tolerates, ToleranceMet, passes_nu
 
 // 1 goes to the lent number where the pair passes, else 0.
 pub fn tolerates(game: &[u8], plan: &[u8], tolerance: u16, passes: &mut u64) -> u64
-    ensures tt_after { leaves result passes.new tt ≡ exported passes_number passes.old (tolerates tolerance game.now plan.now) }
-    ensures tolerance_met { ToleranceMet tolerance game.now plan.now (answer_in (leaves result passes.new tt)) }
+    ensures equation { leaves result passes.new tt ≡ exported passes_number passes.old (tolerates tolerance game.now plan.now) }
+    ensures promise { ToleranceMet tolerance game.now plan.now (answer_in (leaves result passes.new tt)) }
 {
     let answer = tolerance::tolerates(game, plan, tolerance);
     match answer {

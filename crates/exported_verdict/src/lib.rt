@@ -56,8 +56,8 @@ pub fn verdict(
     count: &mut u64,
     moves: &mut [u64],
 ) -> u64
-    ensures tt_after { leaves result (numbers player.new gain.new base.new count.new) (moves.new, tt) ≡ verdict_numbers game.now plan.now (numbers player.old gain.old base.old count.old) moves.old }
-    ensures demand3met_in { Demand3MetIn game.now plan.now moves.old (leaves result (numbers player.new gain.new base.new count.new) (moves.new, tt)) }
+    ensures equation { leaves result (numbers player.new gain.new base.new count.new) (moves.new, tt) ≡ verdict_numbers game.now plan.now (numbers player.old gain.old base.old count.old) moves.old }
+    ensures promise { Demand3MetIn game.now plan.now moves.old (leaves result (numbers player.new gain.new base.new count.new) (moves.new, tt)) }
 {
     let answer = verdict::verdicts::verdict(game, plan, moves);
     match answer {

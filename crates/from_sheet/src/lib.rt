@@ -51,8 +51,8 @@ fn make(game: &[u8], sheet: &[u8], width: usize, limit: u64, out: &mut [u8]) -> 
 
 // Makes the plan of a play sheet: odds of 12 bits, and D up to 4,095.
 pub fn plan_from_sheet(game: &[u8], sheet: &[u8], out: &mut [u8]) -> WriteAnswer
-    ensures tt_after { outcome (write_answered result) (out.new, tt) ≡ plan_from_sheet_of game.now sheet.now out.old }
-    ensures makes { Makes weight_width largest_denominator (sheet_files game.now sheet.now) out.old (outcome (write_answered result) (out.new, tt)) }
+    ensures equation { outcome (write_answered result) (out.new, tt) ≡ plan_from_sheet_of game.now sheet.now out.old }
+    ensures promise { Makes weight_width largest_denominator (sheet_files game.now sheet.now) out.old (outcome (write_answered result) (out.new, tt)) }
 {
     make(
         game,

@@ -63,8 +63,8 @@ fn make(game: &[u8], plan: &[u8], out: &mut [u8], width: usize) -> WriteAnswer
 
 // Makes the play sheet of a plan: 12 bits a move, as its weights have. By the second clause the plan made of the sheet gives the same probabilities.
 pub fn sheet_from_plan(game: &[u8], plan: &[u8], out: &mut [u8]) -> WriteAnswer
-    ensures tt_after { outcome (write_answered result) (out.new, tt) ≡ sheet_from_plan_of game.now plan.now out.old }
-    ensures returns { Returns weight_width largest_denominator (files game.now plan.now) out.old (outcome (write_answered result) (out.new, tt)) }
+    ensures equation { outcome (write_answered result) (out.new, tt) ≡ sheet_from_plan_of game.now plan.now out.old }
+    ensures promise { Returns weight_width largest_denominator (files game.now plan.now) out.old (outcome (write_answered result) (out.new, tt)) }
 {
     make(game, plan, out, PlanHeader::WEIGHT_BITS)
 }

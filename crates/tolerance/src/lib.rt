@@ -55,8 +55,8 @@ fn passes(values: Values, denominators: Denominators, base: u64, tolerance: u64)
 
 // Whether the pair passes at a tolerance in thousandths of a payoff point; the second clause says what that means.
 pub fn tolerates(game: &[u8], plan: &[u8], tolerance: u16) -> ToleranceAnswer
-    ensures result_value { tolerance_answered result ≡ (tolerates tolerance game.now plan.now).answer }
-    ensures tolerance_met { ToleranceMet tolerance game.now plan.now (tolerance_answered result) }
+    ensures equation { tolerance_answered result ≡ (tolerates tolerance game.now plan.now).answer }
+    ensures promise { ToleranceMet tolerance game.now plan.now (tolerance_answered result) }
 {
     let mut numbers = [0u16; Section::NUMBERS];
     let mut payoffs = [0i16; Section::PAYOFFS];

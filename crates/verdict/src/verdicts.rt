@@ -77,8 +77,8 @@ fn show(
 
 // The verdict, with the moves of the strategy that is shown in the buffer; the second clause is demand 3.
 pub fn verdict(game: &[u8], plan: &[u8], moves: &mut [u64]) -> VerdictAnswer
-    ensures tt_after { outcome (verdict_answered result) (moves.new, tt) ≡ verdict_call game.now plan.now moves.old }
-    ensures demand3met { Demand3Met game.now plan.now moves.old (outcome (verdict_answered result) (moves.new, tt)) }
+    ensures equation { outcome (verdict_answered result) (moves.new, tt) ≡ verdict_call game.now plan.now moves.old }
+    ensures promise { Demand3Met game.now plan.now moves.old (outcome (verdict_answered result) (moves.new, tt)) }
 {
     let mut numbers = [0u16; Section::NUMBERS];
     let mut payoffs = [0i16; Section::PAYOFFS];
