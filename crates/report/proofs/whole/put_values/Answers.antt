@@ -55,19 +55,19 @@ best2_is c =
 pub returns : goal.returns
 unfolding values_text ascii
 returns c =
-    put_then (values_put (goal.at.returns c).After-put_both-past_values) c.requires.1 (rw (best1_is (goal.at.returns c).After-scaled_best-best1, best2_is (goal.at.returns c).After-scaled_best-best2) at c.put_both.ensures)
+    put_then (values_put (goal.at.returns c).After-put_both-past_values) c.requires.text_fits (rw (best1_is (goal.at.returns c).After-scaled_best-best1, best2_is (goal.at.returns c).After-scaled_best-best2) at c.put_both.ensures)
 
 pub scaled_best-best1-requires : goal.scaled_best-best1-requires
-scaled_best-best1-requires c = let g = c.requires.0.0 in (g.denominator_fits, rw (to_z-of_z (best1_fits c)) g.scaled)
+scaled_best-best1-requires c = let g = c.requires.gain_fits.0 in (g.denominator_fits, rw (to_z-of_z (best1_fits c)) g.scaled)
 
 pub scaled_best-best2-requires : goal.scaled_best-best2-requires
-scaled_best-best2-requires c = let g = c.requires.0.1 in (g.denominator_fits, rw (to_z-of_z (best2_fits c)) g.scaled)
+scaled_best-best2-requires c = let g = c.requires.gain_fits.1 in (g.denominator_fits, rw (to_z-of_z (best2_fits c)) g.scaled)
 
 pub put_both-past_values-requires : goal.put_both-past_values-requires
 unfolding values_text ascii
-put_both-past_values-requires c = rw (to_z-of_z (value1_fits c), to_z-of_z (value2_fits c)) (room_first (value_lines (goal.at.put_both-past_values-requires c).Start) (best_lines (goal.at.put_both-past_values-requires c).Start) c.requires.1)
+put_both-past_values-requires c = rw (to_z-of_z (value1_fits c), to_z-of_z (value2_fits c)) (room_first (value_lines (goal.at.put_both-past_values-requires c).Start) (best_lines (goal.at.put_both-past_values-requires c).Start) c.requires.text_fits)
 
 pub put_both-requires : goal.put_both-requires
 unfolding values_text ascii
 put_both-requires c =
-    rw (best1_is (goal.at.put_both-requires c).After-scaled_best-best1, best2_is (goal.at.put_both-requires c).After-scaled_best-best2) (room_then (values_put (goal.at.put_both-requires c).After-put_both-past_values) (best_lines (goal.at.put_both-requires c).Start) c.requires.1)
+    rw (best1_is (goal.at.put_both-requires c).After-scaled_best-best1, best2_is (goal.at.put_both-requires c).After-scaled_best-best2) (room_then (values_put (goal.at.put_both-requires c).After-put_both-past_values) (best_lines (goal.at.put_both-requires c).Start) c.requires.text_fits)

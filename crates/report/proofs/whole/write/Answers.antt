@@ -24,7 +24,7 @@ base-base-requires c = let r = c.requires.0 in (r.root_few, r.gain1.denominator_
 pub put_values-past_values-requires : goal.put_values-past_values-requires
 put_values-past_values-requires c =
     let r = c.requires.0 in
-    ((r.gain1, r.gain2), room_first (values_part (goal.at.put_values-past_values-requires c).Start c.base-base.result) (verdict_part (goal.at.put_values-past_values-requires c).Start c.base-base.result) (room (goal.at.put_values-past_values-requires c).After-base-base))
+    record { gain_fits = (r.gain1, r.gain2); text_fits = room_first (values_part (goal.at.put_values-past_values-requires c).Start c.base-base.result) (verdict_part (goal.at.put_values-past_values-requires c).Start c.base-base.result) (room (goal.at.put_values-past_values-requires c).After-base-base) }
 
 pub put_verdict-requires : goal.put_verdict-requires
 put_verdict-requires c =
