@@ -1,5 +1,6 @@
 // A reader of a file's bits: the bytes and a place among their bits. Each function is thin: the reading itself is `bits::read_field`.
 #![tactic(auto)]
+
 ghost use Rattle.std.specs.Prelude.{◌≡◌, ◌+◌, ◌≤◌, ◌<◌, ◌^◌};
 ghost use Rattle.model.specs.Bits.{field};
 ghost use Rattle.bit_reader.specs.Readers.{reader_at, next_field, past};

@@ -1,5 +1,6 @@
 // A writer of a file's bits: lent bytes and a place among their bits. Each function is thin: the writing itself is `bits::put_field`.
 #![tactic(auto)]
+
 ghost use Rattle.std.specs.Prelude.{◌≡◌, ◌++◌, ◌+◌, ◌*◌, ◌≤◌, ◌<◌, ◌^◌, length};
 ghost use Rattle.model.specs.Bits.{bits};
 ghost use Rattle.bits.specs.Puts.{bits_put};

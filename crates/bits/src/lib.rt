@@ -1,5 +1,6 @@
 // A file's bits: fields and runs read from bytes and put into them, and what turns one number into another.
 #![tactic(auto)]
+
 ghost use Rattle.std.specs.Prelude.{◌≡◌, suc, ◌+◌, ◌-◌, ◌/◌, ◌%◌, ◌^◌, ◌≤◌, ◌<◌};
 ghost use Rattle.model.specs.Bits.{bit, field, signed, twos_complement};
 

@@ -1,5 +1,6 @@
 // The answer of a check, the checks that calls share, and the answer of a call that puts bytes.
 #![tactic(auto)]
+
 ghost use Rattle.std.specs.Prelude.{◌≡◌, ◌&&◌, leb, ltb};
 ghost use Rattle.model.specs.Exported.{refusal_of};
 ghost use Rattle.checks.specs.Answers.{write_answered};

@@ -1,5 +1,6 @@
 // All fields of a game file, one list a field.
 #![tactic(auto)]
+
 ghost use Rattle.std.specs.Prelude.{◌≡◌, ◌≤◌, ◌<◌, length, set};
 ghost use Rattle.algebra.specs.Arrays.{over};
 ghost use Rattle.model.specs.Game.{game_of, one, two};

@@ -1,6 +1,7 @@
 // The set entries and the node records of a game file, each decoded once into the sections of a loaded game. Checks 5 and 6 are made in
 // the same passes.
 #![tactic(auto)]
+
 ghost use Rattle.std.specs.Prelude.{◌≡◌, ◌≤◌, ◌<◌, length};
 ghost use Rattle.model.specs.Game.{game_of};
 ghost use Rattle.records.specs.Records.{header_of};

@@ -1,6 +1,7 @@
 // The desk program: reads `game.bin` and `plan.bin` in the working folder and prints its report on them, or the number of their refusal.
 // It takes no arguments, and judges nothing where it is given one: a name that was passed over would seem to be what the report is about.
 #![tactic(auto)]
+
 ghost use Rattle.std.specs.Prelude.{ℕ, suc, ◌≤◌, ◌≡◌, List, length};
 ghost use Rattle.io.specs.Counts.{IsPrefixLen};
 ghost use Rattle.model.specs.Report.{longest_game, longest_plan, printed};

@@ -4,6 +4,7 @@
 // A second `ensures` says what the outcome means: of `desk_verdict` it is demand 3, of the others what document 02 asks for.
 // The comment above an export is its comment in include/desk.h too, which native/derived_files writes.
 #![tactic(auto)]
+
 ghost use Rattle.std.specs.Prelude.{◌≡◌};
 ghost use Rattle.model.specs.Writing.{game_fields_of, field_lists};
 ghost use Rattle.model.specs.Exported.{none, same, exported, leaves};

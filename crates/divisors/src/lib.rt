@@ -1,5 +1,6 @@
 // Greatest common divisors.
 #![tactic(auto)]
+
 ghost use Rattle.std.specs.Prelude.{◌≡◌};
 ghost use Rattle.algebra.specs.Divisors.{gcd};
 

@@ -1,5 +1,6 @@
 // Every call by one name: each family of calls has its crate.
 #![tactic(auto)]
+
 pub use checks::WriteAnswer;
 pub use fields::{FieldsAnswer, game_fields};
 pub use from_sheet::plan_from_sheet;

@@ -1,5 +1,6 @@
 // A pair, read from its files and evaluated: what the calls for values, verdict and report begin with.
 #![tactic(auto)]
+
 ghost use Rattle.std.specs.Prelude.{◌≡◌, ◌≤◌, length};
 ghost use Rattle.model.specs.Limits.{count_limit};
 ghost use Rattle.loaded.specs.Sections.{numbers_room, payoffs_room};

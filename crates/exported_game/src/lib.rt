@@ -1,6 +1,7 @@
 // The check and the fields of a game file as numbers and slices alone, for the exports: the refusal is the result, 0 is none; what is lent for a result
 // keeps what it held where the call refuses.
 #![tactic(auto)]
+
 ghost use Rattle.std.specs.Prelude.{◌≡◌};
 ghost use Rattle.model.specs.Writing.{field_lists};
 ghost use Rattle.model.specs.Exported.{none, same, exported, leaves};

@@ -1,6 +1,7 @@
 // The calls of play sheets as slices and a lent number alone, for the exports: the refusal is the result, 0 is none; what is lent for a result
 // keeps what it held where the call refuses.
 #![tactic(auto)]
+
 ghost use Rattle.std.specs.Prelude.{◌≡◌};
 ghost use Rattle.model.specs.Plan.{weight_width, largest_denominator};
 ghost use Rattle.model.specs.PlanChecks.{files};

@@ -1,6 +1,7 @@
 // The payoff table as numbers and slices alone, for the exports: the refusal is the result, 0 is none; what is lent for a result
 // keeps what it held where the call refuses.
 #![tactic(auto)]
+
 ghost use Rattle.std.specs.Prelude.{◌≡◌};
 ghost use Rattle.model.specs.Exported.{same, exported, leaves};
 ghost use Rattle.model.specs.Calls.PayoffTable.{payoff_columns};

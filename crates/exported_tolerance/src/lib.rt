@@ -1,6 +1,7 @@
 // House tolerance as numbers and slices alone, for the exports: the refusal is the result, 0 is none; the lent number
 // keeps what it held where the call refuses.
 #![tactic(auto)]
+
 ghost use Rattle.std.specs.Prelude.{◌≡◌};
 ghost use Rattle.model.specs.Exported.{exported, leaves};
 ghost use Rattle.model.specs.Calls.Tolerance.{tolerates, ToleranceMet, passes_number, answer_in};

@@ -1,6 +1,7 @@
 // The writers as numbers and slices alone, for the exports: the refusal is the result, 0 is none; what is lent for a result
 // keeps what it held where the call refuses.
 #![tactic(auto)]
+
 ghost use Rattle.std.specs.Prelude.{◌≡◌};
 ghost use Rattle.model.specs.Writing.{game_fields_of};
 ghost use Rattle.model.specs.Exported.{same, exported, leaves};

@@ -1,5 +1,6 @@
 // All fields of a game into lent buffers, one a field.
 #![tactic(auto)]
+
 ghost use Rattle.std.specs.Prelude.{◌≡◌, [], ◌∷◌};
 ghost use Rattle.model.specs.Writing.{field_lists};
 ghost use Rattle.model.specs.Call.{long_enough, outcome};

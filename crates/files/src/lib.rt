@@ -1,6 +1,7 @@
 // Files read whole into lent buffers, and texts written whole. Which bytes are read and how many are written is the operating system's;
 // what follows each read and each write is decided here, and stated.
 #![tactic(auto)]
+
 ghost use Rattle.std.specs.Prelude.{◌-◌, ◌^◌, ◌≡◌, length};
 ghost use Rattle.io.specs.Counts.{IsPrefixLen};
 ghost use Rattle.files.specs.Parts.{Within, next_after_of, after_read_of, after_write_of, is_whole};

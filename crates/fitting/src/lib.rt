@@ -1,5 +1,6 @@
 // Refusal 17: whether what is given to a writer fits. Here numbers, in `game_fit` the lists of a game.
 #![tactic(auto)]
+
 ghost use Rattle.std.specs.Prelude.{◌≡◌, ◌^◌, ◌<◌, T, ltb};
 ghost use Rattle.model.specs.Writing.{all_fit, fits_signed_of, all_fit_signed_of};
 

@@ -1,5 +1,6 @@
 // A pair of plans over a loaded game: each player's value, his best value and his best moves.
 #![tactic(auto)]
+
 ghost use Rattle.std.specs.Prelude.{◌≡◌, ◌+◌, ◌*◌, ◌^◌, ◌≤◌, ◌<◌, length, pos, ◌*ℤ◌};
 ghost use Rattle.algebra.specs.Arrays.{item, item_z};
 ghost use Rattle.model.specs.Limits.{count_limit};

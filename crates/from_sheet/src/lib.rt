@@ -1,5 +1,6 @@
 // The plan made of a play sheet. Any bytes are taken, nothing is asked of the caller.
 #![tactic(auto)]
+
 ghost use Rattle.std.specs.Prelude.{◌≡◌, ◌≤◌, ◌<◌, length};
 ghost use Rattle.algebra.specs.Arrays.{item};
 ghost use Rattle.model.specs.Limits.{count_limit};

@@ -1,6 +1,7 @@
 // Demand 2 on the calls of a game: what is read of an accepted file and written again is the file, and fields whose file is accepted are read back as they were given.
 // Any bytes, lists and numbers are taken, nothing is asked of the caller.
 #![tactic(auto)]
+
 ghost use Rattle.std.specs.Prelude.{◌≡◌, ◌≤◌, length, take};
 ghost use Rattle.model.specs.Call.{outcome};
 ghost use Rattle.model.specs.Writing.{game_fields_of, field_lists};

@@ -1,5 +1,6 @@
 // The game writer: refusals 17 and 18, then the header, the set entries and the node records.
 #![tactic(auto)]
+
 ghost use Rattle.std.specs.Prelude.{◌≡◌, true, ◌+◌, ◌*◌, ◌/◌, ◌≤◌, ◌<◌, [], T, length};
 ghost use Rattle.algebra.specs.Arrays.{item_z, placed};
 ghost use Rattle.algebra.specs.Bounded.{join_to};

@@ -1,5 +1,6 @@
 // The verdict from values and best values: gains, who can gain, and the strategy that shows it.
 #![tactic(auto)]
+
 ghost use Rattle.std.specs.Prelude.{◌≡◌};
 ghost use Rattle.judgement.specs.Judgement.{gain_of, judged, GainFits};
 

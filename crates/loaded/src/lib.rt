@@ -1,5 +1,6 @@
 // A loaded game: one slice of 16-bit numbers in sections, one of payoffs in two, and a few counts. What they hold is `Loaded`.
 #![tactic(auto)]
+
 ghost use Rattle.std.specs.Prelude.{◌≡◌, ◌+◌, ◌≤◌, ◌<◌, length, set};
 ghost use Rattle.algebra.specs.Arrays.{item, item_z};
 ghost use Rattle.algebra.specs.Sections.{Held, Apart};

@@ -1,5 +1,6 @@
 // A game file: its check, and look-ups in it. Any bytes and any numbers are taken, nothing is asked of the caller.
 #![tactic(auto)]
+
 ghost use Rattle.std.specs.Prelude.{◌≡◌};
 ghost use Rattle.model.specs.Call.{given};
 ghost use Rattle.model.specs.Calls.CheckGame.{check_game_of};

@@ -7,7 +7,7 @@ use native.Mathlib.Omega.{arith}
 use native.Mathlib.Nat as NatL
 use lib.Dec.{T, not_T}
 use mir.Facts.{and_yes, yes_and}
-use lib.IntN.{ℤ, pos, ◌-ℤ◌, ◌*ℤ◌}
+use lib.IntN.{pos, ◌-ℤ◌, ◌*ℤ◌}
 use lib.Signed.{◌≤ℤ◌, le_z_yes, lt_z, lt_z_yes, lt_z_no, clash_ℤ}
 use Rattle.algebra.proofs.Tests.{bool_same}
 use Rattle.algebra.proofs.Integers.{le_to, to_le, up_scale, down_scale}

@@ -1,6 +1,5 @@
 -- Document 01, "The desk program": what it prints for a pair of files, as bytes. Its amounts are those of document 02, W-202.
 use Rattle.std.specs.Prelude.{ℕ, zero, suc, ◌+◌, ◌*◌, ◌/◌, ◌%◌, cond, eqb, ltb, ℤ, pos, nat_abs}
-use Prim.Native.String as String
 use Prim.Native.String.{String}
 use Prim.Native.Char.{code}
 use mathlib.Core.List.{List, [], ◌∷◌, ◌++◌, flat_map}

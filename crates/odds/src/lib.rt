@@ -1,5 +1,6 @@
 // Check 20 of a play sheet: at each set whose own sequence has no zero odds, some move has odds.
 #![tactic(auto)]
+
 ghost use Rattle.std.specs.Prelude.{◌≡◌, cond, ◌+◌, ◌≤◌, ◌<◌, length, ltb};
 ghost use Rattle.algebra.specs.Arrays.{item};
 ghost use Rattle.algebra.specs.Sections.{Held, Apart};

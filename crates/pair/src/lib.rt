@@ -1,5 +1,6 @@
 // A game file with a plan file: what every call above takes, both files checked and the weights in arrays.
 #![tactic(auto)]
+
 ghost use Rattle.std.specs.Prelude.{◌≡◌, ◌≤◌, length};
 ghost use Rattle.model.specs.Limits.{count_limit};
 ghost use Rattle.loaded.specs.Sections.{numbers_room, payoffs_room};

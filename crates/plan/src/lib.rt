@@ -1,5 +1,6 @@
 // Plan files for a loaded game: checked by document 01's checks 14 to 16, decoded into weights by sequence number, and put back in file order.
 #![tactic(auto)]
+
 ghost use Rattle.std.specs.Prelude.{List, ℕ, ◌≤◌, length};
 ghost use Rattle.model.specs.Limits.{count_limit};
 ghost use Rattle.model.specs.Game.{game_of};

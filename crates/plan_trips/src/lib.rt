@@ -1,6 +1,7 @@
 // Demand 2 on the calls of a plan: what is read of a plan that fits and written again is the file, and weights whose file fits are read back as they were given.
 // Any bytes, lists and numbers are taken, nothing is asked of the caller.
 #![tactic(auto)]
+
 ghost use Rattle.std.specs.Prelude.{◌≡◌};
 ghost use Rattle.model.specs.Call.{outcome};
 ghost use Rattle.model.specs.Calls.RewritePlan.{rewrite_plan_of};

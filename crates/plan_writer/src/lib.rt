@@ -1,5 +1,6 @@
 // The plan writer: refusals 17 and 18, then the header and all weights in file order.
 #![tactic(auto)]
+
 ghost use Rattle.std.specs.Prelude.{◌≡◌, ◌&&◌, ◌+◌, ◌*◌, ◌/◌, ◌^◌, ◌≤◌, length, ltb};
 ghost use Rattle.algebra.specs.Arrays.{placed};
 ghost use Rattle.model.specs.Writing.{plan_bytes, plan_fields_fit};

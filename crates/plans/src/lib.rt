@@ -1,5 +1,6 @@
 // A plan against a game: its check, and all its weights. Any bytes are taken, nothing is asked of the caller.
 #![tactic(auto)]
+
 ghost use Rattle.std.specs.Prelude.{◌≡◌};
 ghost use Rattle.model.specs.Call.{outcome};
 ghost use Rattle.model.specs.Exported.{refusal_of};

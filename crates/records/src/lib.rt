@@ -1,5 +1,6 @@
 // The records of the two files, one module a file, each read and put: nothing outside knows where a field stands or how wide it is.
 #![tactic(auto)]
+
 pub mod game_file;
 pub mod plan_file;
 

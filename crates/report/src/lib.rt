@@ -1,5 +1,6 @@
 // The desk program's text, put into a lent buffer.
 #![tactic(auto)]
+
 use records::SetEntry;
 
 pub mod printing;

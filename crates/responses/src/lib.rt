@@ -1,5 +1,6 @@
 // A player's best response over a loaded game: what his leaves are worth, the worths of his sequences, and his best moves.
 #![tactic(auto)]
+
 ghost use Rattle.std.specs.Prelude.{◌≤◌, length};
 ghost use Rattle.model.specs.Limits.{count_limit};
 ghost use Rattle.responses.specs.Responses.{ResponseAsked, ResponseGiven};

@@ -1,5 +1,6 @@
 // Information sets, own sequences and their numbers; checks 12 and 13 of a game file.
 #![tactic(auto)]
+
 pub mod lookup;
 pub mod recall;
 pub mod sets;

@@ -1,5 +1,6 @@
 // Play sheets for a loaded game: how long they are, check 19, and the odds of either player by sequence number. The bits of each move are the caller's number.
 #![tactic(auto)]
+
 ghost use Rattle.std.specs.Prelude.{◌≡◌, ◌+◌, ◌*◌, ◌-◌, ◌/◌, ◌^◌, ◌≤◌, ◌<◌, eqb, length};
 ghost use Rattle.algebra.specs.Arrays.{placed};
 ghost use Rattle.model.specs.Bits.{field, fields};

@@ -1,5 +1,6 @@
 // Number slices, of whatever game: places grouped by their keys, and sums of weighed payoffs.
 #![tactic(auto)]
+
 ghost use Rattle.std.specs.Prelude.{◌≡◌, ◌<◌, length};
 ghost use Rattle.algebra.specs.Arrays.{item};
 

@@ -1,6 +1,7 @@
 // The smallest D of a player for which every realization weight is whole, and his weights over it. His sets are taken in the order of their first nodes:
 // the probability of each sequence is found in lowest terms from the one before it, and the common multiple of the denominators is tested as it grows.
 #![tactic(auto)]
+
 ghost use Rattle.std.specs.Prelude.{◌≡◌, ◌*◌, ◌/◌, ◌≤◌, ◌<◌, length};
 ghost use Rattle.algebra.specs.Arrays.{item, over};
 ghost use Rattle.algebra.specs.Divisors.{lcm};

@@ -1,5 +1,6 @@
 // The payoff table of a game into lent buffers, one a column.
 #![tactic(auto)]
+
 ghost use Rattle.std.specs.Prelude.{◌≡◌, ◌&&◌, [], ◌∷◌, ℕ, ◌≤◌, ◌<◌, leb, length};
 ghost use Rattle.algebra.specs.Arrays.{over};
 ghost use Rattle.model.specs.Game.{one, two};

@@ -1,6 +1,7 @@
 // Text put into a buffer: bytes, numbers in base ten, amounts, and lines.
 // Each function puts its text from a place on and answers the place after it.
 #![tactic(auto)]
+
 ghost use Rattle.text.specs.Text.{TextFits, Put};
 
 pub mod amount;

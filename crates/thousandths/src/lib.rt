@@ -1,5 +1,6 @@
 // Amounts compared with whole numbers of thousandths.
 #![tactic(auto)]
+
 ghost use Rattle.std.specs.Prelude.{◌≡◌};
 ghost use Rattle.model.specs.Earnings.{◌over◌};
 ghost use Rattle.model.specs.Tolerance.{thousandths, at_most, thousandths_up};

@@ -1,6 +1,7 @@
 // Times best responses by themselves. The game is loaded once; then player 1's best response is computed against player 2's weights as often as the two bytes of the file `times` say, high byte first.
 // Two runs that differ in that number alone differ by the time of the best responses.
 #![tactic(auto)]
+
 ghost use Rattle.std.specs.Prelude.{◌≡◌, ◌≤◌};
 ghost use Rattle.responses.specs.Responses.{ResponseAsked};
 

@@ -1,5 +1,6 @@
 // Play sheets made of plans. Any bytes are taken, nothing is asked of the caller.
 #![tactic(auto)]
+
 ghost use Rattle.std.specs.Prelude.{◌≡◌, ◌≤◌, length};
 ghost use Rattle.model.specs.Limits.{count_limit};
 ghost use Rattle.model.specs.Plan.{weight_width, largest_denominator};

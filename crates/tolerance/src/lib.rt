@@ -1,5 +1,6 @@
 // The call for house tolerance.
 #![tactic(auto)]
+
 ghost use Rattle.std.specs.Prelude.{◌≡◌, ◌&&◌};
 ghost use Rattle.model.specs.Earnings.{◌over◌};
 ghost use Rattle.model.specs.Tolerance.{thousandths, at_most};

@@ -1,5 +1,6 @@
 // Tries payoff tables, in columns and as rows, and values: those of each case that the list `cases` names, then the tables of those that `rooms` names, into buffers of each length.
 #![tactic(auto)]
+
 ghost use Rattle.std.specs.Prelude.{◌≤◌, length};
 ghost use Rattle.model.specs.Limits.{count_limit};
 

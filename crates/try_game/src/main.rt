@@ -1,5 +1,6 @@
 // Tries the calls of game files: a line for each file that the list `cases` names, then every look-up in three of them and all fields of three.
 #![tactic(auto)]
+
 use entry::{FieldsAnswer, GameAnswer, NodeAnswer, Place, SequenceAnswer, SetAnswer};
 use trials::lists::{line_at, next_line};
 use trials::{

@@ -1,5 +1,6 @@
 // Tries the calls of plan files: a line for each case that the list `cases` names, then all weights of those that `rooms` names, into buffers of each length.
 #![tactic(auto)]
+
 ghost use Rattle.std.specs.Prelude.{◌≤◌};
 
 use entry::{PlanAnswer, WeightsAnswer};

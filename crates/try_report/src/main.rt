@@ -1,5 +1,6 @@
 // Tries the desk program's text: for each case that the list `cases` names; into buffers around the text's length for those that `rooms` names; and the lines of some refusals.
 #![tactic(auto)]
+
 ghost use Rattle.std.specs.Prelude.{suc, ◌≤◌};
 ghost use Rattle.report.specs.Whole.{most};
 

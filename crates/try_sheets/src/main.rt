@@ -1,5 +1,6 @@
 // Tries the calls of play sheets: a line for each case that the lists `sheets` and `plans` name, of which plans and sheets are made; then those that `sheet_rooms` and `plan_rooms` name, into buffers of each length.
 #![tactic(auto)]
+
 ghost use Rattle.std.specs.Prelude.{◌≤◌};
 
 use entry::WriteAnswer;

@@ -1,5 +1,6 @@
 // Tries house tolerance: of each case that the list `cases` names, a line for each number that its third file has, two bytes each.
 #![tactic(auto)]
+
 ghost use Rattle.std.specs.Prelude.{◌+◌, ◌<◌, length};
 
 use entry::ToleranceAnswer;

@@ -1,5 +1,6 @@
 // Tries the round trips: the study game of document 003 with its plans M and F, files that are refused, and buffers that are too short.
 #![tactic(auto)]
+
 use checks::WriteAnswer;
 use fields::FieldsAnswer;
 use plans::WeightsAnswer;

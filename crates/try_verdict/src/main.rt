@@ -1,5 +1,6 @@
 // Tries the verdict on pairs: a line for each case that the list `cases` names, then those that `rooms` names with buffers of each length.
 #![tactic(auto)]
+
 ghost use Rattle.std.specs.Prelude.{◌≤◌};
 ghost use Rattle.model.specs.Limits.{count_limit};
 

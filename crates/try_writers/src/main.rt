@@ -1,6 +1,7 @@
 // Tries the writers: a line for each case that the lists `games` and `plans` name, then lists of thousands of entries.
 // A case's file is words of 64 bits, most significant byte first, each at a fixed place.
 #![tactic(auto)]
+
 ghost use Rattle.std.specs.Prelude.{◌≤◌, ◌+◌, ◌^◌, ◌≡◌, length, take};
 
 use entry::WriteAnswer;

@@ -1,5 +1,6 @@
 // The calls on a pair of files: values and best values, and the verdict.
 #![tactic(auto)]
+
 pub mod values;
 pub mod verdicts;
 

@@ -1,5 +1,6 @@
 // A play sheet weighed: checks 19 to 21 for a loaded game, and both players' weights over their smallest D.
 #![tactic(auto)]
+
 ghost use Rattle.std.specs.Prelude.{◌≡◌, List, ℕ, ◌≤◌, ◌<◌, length};
 ghost use Rattle.model.specs.Limits.{count_limit, weight_limit};
 ghost use Rattle.model.specs.Game.{Game, game_of, one, two};

@@ -6,7 +6,7 @@ use Rattle.model.specs.Writing.{payoff_field, set_field, moves_field}
 use Rattle.columns.proofs.node_columns.Given as goal
 
 abbrev pub invariant-loop-n : goal.invariant-loop-n
-invariant-loop-n l =     Filling (game_of l.bytes).kind (game_of l.bytes).nodes l.initial.kinds l.n l.kinds
+invariant-loop-n l = Filling (game_of l.bytes).kind (game_of l.bytes).nodes l.initial.kinds l.n l.kinds
     × Filling (game_of l.bytes).parent (game_of l.bytes).nodes l.initial.parents l.n l.parents
     × Filling (game_of l.bytes).move (game_of l.bytes).nodes l.initial.moves l.n l.moves
     × Filling (game_of l.bytes).weight (game_of l.bytes).nodes l.initial.weights l.n l.weights

@@ -6,7 +6,7 @@ use Rattle.model.specs.Writing.{player_field}
 use Rattle.columns.proofs.set_columns.Given as goal
 
 abbrev pub invariant-loop-h : goal.invariant-loop-h
-invariant-loop-h l =     Filling (player_field (game_of l.bytes)) (game_of l.bytes).sets l.initial.players l.h l.players
+invariant-loop-h l = Filling (player_field (game_of l.bytes)) (game_of l.bytes).sets l.initial.players l.h l.players
     × Filling (game_of l.bytes).set_moves (game_of l.bytes).sets l.initial.moves l.h l.moves
 
 abbrev pub decreases-loop-h : goal.decreases-loop-h

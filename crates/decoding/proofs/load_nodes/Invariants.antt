@@ -7,7 +7,7 @@ use Rattle.decoding.proofs.Nodes.{well_formed_at, NodesPut, PayoffsPut}
 use Rattle.decoding.proofs.load_nodes.Given as goal
 
 abbrev pub invariant-loop-n : goal.invariant-loop-n
-invariant-loop-n l =     Passed (well_formed_at l.bytes) (game_of l.bytes).nodes l.n
+invariant-loop-n l = Passed (well_formed_at l.bytes) (game_of l.bytes).nodes l.n
     × NodesPut (game_of l.bytes) l.n l.initial.numbers l.numbers
     × PayoffsPut (game_of l.bytes) l.n l.leaves l.initial.payoffs l.payoffs
 

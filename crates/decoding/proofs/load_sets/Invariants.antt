@@ -7,7 +7,7 @@ use Rattle.decoding.proofs.Entries.{SetsPut}
 use Rattle.decoding.proofs.load_sets.Given as goal
 
 abbrev pub invariant-loop-h : goal.invariant-loop-h
-invariant-loop-h l =     Passed (λ k. is_move_count_of ((game_of l.bytes).set_moves k)) (game_of l.bytes).sets l.h
+invariant-loop-h l = Passed (λ k. is_move_count_of ((game_of l.bytes).set_moves k)) (game_of l.bytes).sets l.h
     × SetsPut (game_of l.bytes) l.h l.initial.numbers l.numbers
 
 abbrev pub decreases-loop-h : goal.decreases-loop-h

@@ -11,7 +11,7 @@ use Rattle.form.proofs.PairLaws.{value_to}
 use Rattle.form.proofs.value.Given as goal
 
 abbrev pub invariant-loop-k : goal.invariant-loop-k
-invariant-loop-k l =     (l.k ≤ l.leaves)
+invariant-loop-k l = (l.k ≤ l.leaves)
     × ((c : Counts) (g : Game) (L : Loaded g c l.numbers l.payoffs) (W : PairWeights g l.x l.y) → l.leaves ≡ c.leaves → l.sum ≡ value_to L W (player_of l.player) l.k)
 
 abbrev pub decreases-loop-k : goal.decreases-loop-k

@@ -6,7 +6,7 @@ use lib.ListN.{length}
 use Rattle.model.specs.Game.{game_of}
 use Rattle.model.specs.Plan.{plan_moves, plan_weights, weight_bit}
 use Rattle.model.specs.PlanChecks.{files}
-use Rattle.model.specs.Writing.{PlanFields, plan_fields_of, plan_bytes}
+use Rattle.model.specs.Writing.{plan_fields_of, plan_bytes}
 use Rattle.model.specs.Rules.{GoodFiles, PlanFieldsFit}
 use Rattle.model.specs.Rows.{of}
 use Rattle.model.specs.Checks.{pair_rows}

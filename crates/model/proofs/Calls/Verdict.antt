@@ -17,7 +17,7 @@ use Rattle.model.specs.Verdict.{shown_moves}
 use Rattle.model.specs.Rules.{GoodFiles}
 use Rattle.model.specs.Call.{Outcome, after_call}
 use Rattle.model.specs.Exported.{exported}
-use Rattle.model.specs.Calls.Verdict.{Stated, accepted, verdict_of, stated, call, verdict_call, Numbers, numbers_of, verdict_numbers}
+use Rattle.model.specs.Calls.Verdict.{Stated, verdict_of, stated, call, verdict_call, Numbers, numbers_of, verdict_numbers}
 use Rattle.model.specs.Demand1.{Clause}
 use Rattle.model.specs.Demand3.{Deviates, strategy_in, IsAccepted, stated_base, StrategiesExist, Shows, Means, Judged, Demand3Met, stated_by, Demand3MetIn}
 use Rattle.model.proofs.Checks.{game_file_iff, plan_file_iff, pair_decided}

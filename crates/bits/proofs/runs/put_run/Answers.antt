@@ -1,9 +1,8 @@
-use Prim.Native.Nat.{◌-◌}
 use mathlib.Core.Path.{◌≡◌, ◌∙◌}
 use native.Mathlib.Omega.{arith}
 use lib.ListN.{length}
 use Rattle.algebra.proofs.Arrays.{placing_none, placing_more, placing_long, placing_all}
-use Rattle.bits.proofs.Bytes.{run_byte, run_bytes}
+use Rattle.bits.proofs.Bytes.{run_bytes}
 use Rattle.bits.proofs.runs.put_run.Goals as goal
 use Rattle.bits.proofs.runs.put_run.Goals.{At-loop-j}
 

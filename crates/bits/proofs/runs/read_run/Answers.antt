@@ -1,10 +1,10 @@
-use Prim.Native.Nat.{◌+◌, ◌*◌, ◌-◌, ◌≤◌}
+use Prim.Native.Nat.{◌+◌, ◌*◌, ◌≤◌}
 use mathlib.Core.Path.{◌≡◌}
 use native.Mathlib.Omega.{arith}
 use lib.ListN.{length}
 use lib.Pow.{pow_mono}
 use Rattle.algebra.proofs.Arrays.{placing_none, placing_more, placing_long, placing_all}
-use Rattle.model.specs.Bits.{field, fields}
+use Rattle.model.specs.Bits.{fields}
 use Rattle.bits.proofs.Bytes.{in_run}
 use Rattle.bits.proofs.runs.read_run.Goals as goal
 use Rattle.bits.proofs.runs.read_run.Goals.{At-loop-i, In-loop-i}

@@ -40,17 +40,17 @@ tree_in c b F =
     let fine_7 : (b : List ℕ) → FileDecoded b c.args.header c.args.numbers.now → T (payloads_in_range_of (game_of b)) = λ b. λ F. fine_test 7 (payloads_in_range_of (game_of b)) (made_7 b F) c.in-Fine.is in
     let made_8 : (b : List ℕ) → FileDecoded b c.args.header c.args.numbers.now → c.nodes_attached-c8.result ≡ checked_of 8 (nodes_attached_of (game_of b)) = λ b. λ F. c.nodes_attached-c8.ensures (game_of b) (header_nodes _ _ F.header_is) F.decoded (fine_7 b F) in
     record {
-  nodes_are = header_nodes _ _ F.header_is;
-  decoded = F.decoded;
-  rooted = rooted (game_limits b) F.counts F.set_moves (fine_7 b F) (fine_test 8 (nodes_attached_of (game_of b)) (made_8 b F) c.in-Fine-c8.is);
-}
+      nodes_are = header_nodes _ _ F.header_is;
+      decoded = F.decoded;
+      rooted = rooted (game_limits b) F.counts F.set_moves (fine_7 b F) (fine_test 8 (nodes_attached_of (game_of b)) (made_8 b F) c.in-Fine-c8.is);
+    }
 
 made_9 : (c : After-moves_lead_on-c9) (b : List ℕ) → FileDecoded b c.args.header c.args.numbers.now → c.moves_lead_on-c9.result ≡ checked_of 9 (moves_lead_on_of (game_of b))
 made_9 c b F =
     let made_7 : (b : List ℕ) → FileDecoded b c.args.header c.args.numbers.now → c.payloads_in_range-c7.result ≡ checked_of 7 (payloads_in_range_of (game_of b)) = λ b. λ F. c.payloads_in_range-c7.ensures (game_of b) (header_nodes _ _ F.header_is) (header_sets _ _ F.header_is) F.decoded in
     let fine_7 : (b : List ℕ) → FileDecoded b c.args.header c.args.numbers.now → T (payloads_in_range_of (game_of b)) = λ b. λ F. fine_test 7 (payloads_in_range_of (game_of b)) (made_7 b F) c.in-Fine.is in
     let made_8 : (b : List ℕ) → FileDecoded b c.args.header c.args.numbers.now → c.nodes_attached-c8.result ≡ checked_of 8 (nodes_attached_of (game_of b)) = λ b. λ F. c.nodes_attached-c8.ensures (game_of b) (header_nodes _ _ F.header_is) F.decoded (fine_7 b F) in
-    let tree_in : (b : List ℕ) → FileDecoded b c.args.header c.args.numbers.now → TreeIn c.args.header.nodes c.args.numbers.now (game_of b) = λ b. λ F. record { nodes_are = header_nodes _ _ F.header_is; decoded = F.decoded; rooted = rooted (game_limits b) F.counts F.set_moves (fine_7 b F) (fine_test 8 (nodes_attached_of (game_of b)) (made_8 b F) c.in-Fine-c8.is); } in
+    let tree_in : (b : List ℕ) → FileDecoded b c.args.header c.args.numbers.now → TreeIn c.args.header.nodes c.args.numbers.now (game_of b) = λ b. λ F. record { nodes_are = header_nodes _ _ F.header_is; decoded = F.decoded; rooted = rooted (game_limits b) F.counts F.set_moves (fine_7 b F) (fine_test 8 (nodes_attached_of (game_of b)) (made_8 b F) c.in-Fine-c8.is) } in
     c.moves_lead_on-c9.ensures (game_of b) (tree_in b F)
 
 made_10 : (c : After-weights_obey_rules-c10) (b : List ℕ) → FileDecoded b c.args.header c.args.numbers.now → c.weights_obey_rules-c10.result ≡ checked_of 10 (weights_obey_rules_of (game_of b))
@@ -58,7 +58,7 @@ made_10 c b F =
     let made_7 : (b : List ℕ) → FileDecoded b c.args.header c.args.numbers.now → c.payloads_in_range-c7.result ≡ checked_of 7 (payloads_in_range_of (game_of b)) = λ b. λ F. c.payloads_in_range-c7.ensures (game_of b) (header_nodes _ _ F.header_is) (header_sets _ _ F.header_is) F.decoded in
     let fine_7 : (b : List ℕ) → FileDecoded b c.args.header c.args.numbers.now → T (payloads_in_range_of (game_of b)) = λ b. λ F. fine_test 7 (payloads_in_range_of (game_of b)) (made_7 b F) c.in-Fine.is in
     let made_8 : (b : List ℕ) → FileDecoded b c.args.header c.args.numbers.now → c.nodes_attached-c8.result ≡ checked_of 8 (nodes_attached_of (game_of b)) = λ b. λ F. c.nodes_attached-c8.ensures (game_of b) (header_nodes _ _ F.header_is) F.decoded (fine_7 b F) in
-    let tree_in : (b : List ℕ) → FileDecoded b c.args.header c.args.numbers.now → TreeIn c.args.header.nodes c.args.numbers.now (game_of b) = λ b. λ F. record { nodes_are = header_nodes _ _ F.header_is; decoded = F.decoded; rooted = rooted (game_limits b) F.counts F.set_moves (fine_7 b F) (fine_test 8 (nodes_attached_of (game_of b)) (made_8 b F) c.in-Fine-c8.is); } in
+    let tree_in : (b : List ℕ) → FileDecoded b c.args.header c.args.numbers.now → TreeIn c.args.header.nodes c.args.numbers.now (game_of b) = λ b. λ F. record { nodes_are = header_nodes _ _ F.header_is; decoded = F.decoded; rooted = rooted (game_limits b) F.counts F.set_moves (fine_7 b F) (fine_test 8 (nodes_attached_of (game_of b)) (made_8 b F) c.in-Fine-c8.is) } in
     c.weights_obey_rules-c10.ensures (game_of b) (tree_in b F) (header_weight _ _ F.header_is)
 
 made_11 : (c : After-paths_in_limit) (b : List ℕ) → FileDecoded b c.args.header c.args.numbers.now → c.paths_in_limit.result ≡ checked_of 11 (paths_in_limit_of (game_of b))
@@ -66,7 +66,7 @@ made_11 c b F =
     let made_7 : (b : List ℕ) → FileDecoded b c.args.header c.args.numbers.now → c.payloads_in_range-c7.result ≡ checked_of 7 (payloads_in_range_of (game_of b)) = λ b. λ F. c.payloads_in_range-c7.ensures (game_of b) (header_nodes _ _ F.header_is) (header_sets _ _ F.header_is) F.decoded in
     let fine_7 : (b : List ℕ) → FileDecoded b c.args.header c.args.numbers.now → T (payloads_in_range_of (game_of b)) = λ b. λ F. fine_test 7 (payloads_in_range_of (game_of b)) (made_7 b F) c.in-Fine.is in
     let made_8 : (b : List ℕ) → FileDecoded b c.args.header c.args.numbers.now → c.nodes_attached-c8.result ≡ checked_of 8 (nodes_attached_of (game_of b)) = λ b. λ F. c.nodes_attached-c8.ensures (game_of b) (header_nodes _ _ F.header_is) F.decoded (fine_7 b F) in
-    let tree_in : (b : List ℕ) → FileDecoded b c.args.header c.args.numbers.now → TreeIn c.args.header.nodes c.args.numbers.now (game_of b) = λ b. λ F. record { nodes_are = header_nodes _ _ F.header_is; decoded = F.decoded; rooted = rooted (game_limits b) F.counts F.set_moves (fine_7 b F) (fine_test 8 (nodes_attached_of (game_of b)) (made_8 b F) c.in-Fine-c8.is); } in
+    let tree_in : (b : List ℕ) → FileDecoded b c.args.header c.args.numbers.now → TreeIn c.args.header.nodes c.args.numbers.now (game_of b) = λ b. λ F. record { nodes_are = header_nodes _ _ F.header_is; decoded = F.decoded; rooted = rooted (game_limits b) F.counts F.set_moves (fine_7 b F) (fine_test 8 (nodes_attached_of (game_of b)) (made_8 b F) c.in-Fine-c8.is) } in
     c.paths_in_limit.ensures (game_of b) (tree_in b F)
 
 -- the checks that have passed
@@ -93,7 +93,7 @@ left_10 c b F =
     let fine_7 : (b : List ℕ) → FileDecoded b c.args.header c.args.numbers.now → T (payloads_in_range_of (game_of b)) = λ b. λ F. fine_test 7 (payloads_in_range_of (game_of b)) (made_7 b F) c.in-Fine.is in
     let made_8 : (b : List ℕ) → FileDecoded b c.args.header c.args.numbers.now → c.nodes_attached-c8.result ≡ checked_of 8 (nodes_attached_of (game_of b)) = λ b. λ F. c.nodes_attached-c8.ensures (game_of b) (header_nodes _ _ F.header_is) F.decoded (fine_7 b F) in
     let left_9 : (b : List ℕ) → FileDecoded b c.args.header c.args.numbers.now → Left tree_part (drop 2 tree_part) b = λ b. λ F. passes (left_8 b F) (made_8 b F) c.in-Fine-c8.is in
-    let tree_in : (b : List ℕ) → FileDecoded b c.args.header c.args.numbers.now → TreeIn c.args.header.nodes c.args.numbers.now (game_of b) = λ b. λ F. record { nodes_are = header_nodes _ _ F.header_is; decoded = F.decoded; rooted = rooted (game_limits b) F.counts F.set_moves (fine_7 b F) (fine_test 8 (nodes_attached_of (game_of b)) (made_8 b F) c.in-Fine-c8.is); } in
+    let tree_in : (b : List ℕ) → FileDecoded b c.args.header c.args.numbers.now → TreeIn c.args.header.nodes c.args.numbers.now (game_of b) = λ b. λ F. record { nodes_are = header_nodes _ _ F.header_is; decoded = F.decoded; rooted = rooted (game_limits b) F.counts F.set_moves (fine_7 b F) (fine_test 8 (nodes_attached_of (game_of b)) (made_8 b F) c.in-Fine-c8.is) } in
     let made_9 : (b : List ℕ) → FileDecoded b c.args.header c.args.numbers.now → c.moves_lead_on-c9.result ≡ checked_of 9 (moves_lead_on_of (game_of b)) = λ b. λ F. c.moves_lead_on-c9.ensures (game_of b) (tree_in b F) in
     passes (left_9 b F) (made_9 b F) c.in-Fine-c9.is
 
@@ -105,7 +105,7 @@ left_11 c b F =
     let fine_7 : (b : List ℕ) → FileDecoded b c.args.header c.args.numbers.now → T (payloads_in_range_of (game_of b)) = λ b. λ F. fine_test 7 (payloads_in_range_of (game_of b)) (made_7 b F) c.in-Fine.is in
     let made_8 : (b : List ℕ) → FileDecoded b c.args.header c.args.numbers.now → c.nodes_attached-c8.result ≡ checked_of 8 (nodes_attached_of (game_of b)) = λ b. λ F. c.nodes_attached-c8.ensures (game_of b) (header_nodes _ _ F.header_is) F.decoded (fine_7 b F) in
     let left_9 : (b : List ℕ) → FileDecoded b c.args.header c.args.numbers.now → Left tree_part (drop 2 tree_part) b = λ b. λ F. passes (left_8 b F) (made_8 b F) c.in-Fine-c8.is in
-    let tree_in : (b : List ℕ) → FileDecoded b c.args.header c.args.numbers.now → TreeIn c.args.header.nodes c.args.numbers.now (game_of b) = λ b. λ F. record { nodes_are = header_nodes _ _ F.header_is; decoded = F.decoded; rooted = rooted (game_limits b) F.counts F.set_moves (fine_7 b F) (fine_test 8 (nodes_attached_of (game_of b)) (made_8 b F) c.in-Fine-c8.is); } in
+    let tree_in : (b : List ℕ) → FileDecoded b c.args.header c.args.numbers.now → TreeIn c.args.header.nodes c.args.numbers.now (game_of b) = λ b. λ F. record { nodes_are = header_nodes _ _ F.header_is; decoded = F.decoded; rooted = rooted (game_limits b) F.counts F.set_moves (fine_7 b F) (fine_test 8 (nodes_attached_of (game_of b)) (made_8 b F) c.in-Fine-c8.is) } in
     let made_9 : (b : List ℕ) → FileDecoded b c.args.header c.args.numbers.now → c.moves_lead_on-c9.result ≡ checked_of 9 (moves_lead_on_of (game_of b)) = λ b. λ F. c.moves_lead_on-c9.ensures (game_of b) (tree_in b F) in
     let left_10 : (b : List ℕ) → FileDecoded b c.args.header c.args.numbers.now → Left tree_part (drop 3 tree_part) b = λ b. λ F. passes (left_9 b F) (made_9 b F) c.in-Fine-c9.is in
     let made_10 : (b : List ℕ) → FileDecoded b c.args.header c.args.numbers.now → c.weights_obey_rules-c10.result ≡ checked_of 10 (weights_obey_rules_of (game_of b)) = λ b. λ F. c.weights_obey_rules-c10.ensures (game_of b) (tree_in b F) (header_weight _ _ F.header_is) in

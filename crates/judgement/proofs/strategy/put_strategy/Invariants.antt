@@ -8,7 +8,7 @@ use Rattle.judgement.specs.Strategy.{is_own}
 use Rattle.judgement.proofs.strategy.put_strategy.Given as goal
 
 abbrev pub invariant-loop-h : goal.invariant-loop-h
-invariant-loop-h l =     (l.h ≤ l.sets)
+invariant-loop-h l = (l.h ≤ l.sets)
     × (l.at ≡ length (gathered_below (is_own l.numbers l.player) l.h))
     × Gathering (is_own l.numbers l.player) (item l.moves) l.h l.initial.out l.out
 

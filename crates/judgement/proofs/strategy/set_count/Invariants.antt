@@ -7,7 +7,7 @@ use Rattle.judgement.specs.Strategy.{is_own}
 use Rattle.judgement.proofs.strategy.set_count.Given as goal
 
 abbrev pub invariant-loop-h : goal.invariant-loop-h
-invariant-loop-h l =     (l.h ≤ l.sets) × (l.count ≡ length (gathered_below (is_own l.numbers l.player) l.h))
+invariant-loop-h l = (l.h ≤ l.sets) × (l.count ≡ length (gathered_below (is_own l.numbers l.player) l.h))
 
 abbrev pub decreases-loop-h : goal.decreases-loop-h
 decreases-loop-h l = l.sets - l.h

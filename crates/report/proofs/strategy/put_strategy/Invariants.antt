@@ -6,7 +6,7 @@ use Rattle.report.specs.Whole.{set_line}
 use Rattle.report.proofs.strategy.put_strategy.Given as goal
 
 abbrev pub invariant-loop-h : goal.invariant-loop-h
-invariant-loop-h l =     (l.h ≤ l.sets) × Put l.at (join_to l.h (set_line l.numbers l.player l.moves)) l.initial.out l.out l.next
+invariant-loop-h l = (l.h ≤ l.sets) × Put l.at (join_to l.h (set_line l.numbers l.player l.moves)) l.initial.out l.out l.next
 
 abbrev pub decreases-loop-h : goal.decreases-loop-h
 decreases-loop-h l = l.sets - l.h

@@ -19,7 +19,7 @@ loop-m-preserved c =
       omega arith,
       omega arith,
       elim c.if-worths-start.branch [
-        then-worths-start w ↦ rw w.best-is (foremost_new _ p.invariant.2 (rw (x, y) at w.if-worths-start.true))
+        | then-worths-start w ↦ rw w.best-is (foremost_new _ p.invariant.2 (rw (x, y) at w.if-worths-start.true))
         | else-worths-start w ↦ rw w.best-is (foremost_old _ p.invariant.2 (rw (x, y) at w.if-worths-start.false))
       ],
     )

@@ -10,7 +10,7 @@ use Rattle.responses.specs.BestMoves.{own_best_move}
 use Rattle.responses.proofs.moves.best_moves.Given as goal
 
 abbrev pub invariant-loop-h : goal.invariant-loop-h
-invariant-loop-h l =     (c : Counts) (g : Game) (y : RealizationPlan) → WorthsHeld g (player_of l.player) y c l.numbers l.worths → l.sets ≡ g.sets → Filling (own_best_move g (player_of l.player) y) l.sets l.initial.moves l.h l.moves
+invariant-loop-h l = (c : Counts) (g : Game) (y : RealizationPlan) → WorthsHeld g (player_of l.player) y c l.numbers l.worths → l.sets ≡ g.sets → Filling (own_best_move g (player_of l.player) y) l.sets l.initial.moves l.h l.moves
 
 abbrev pub decreases-loop-h : goal.decreases-loop-h
 decreases-loop-h l = l.sets - l.h

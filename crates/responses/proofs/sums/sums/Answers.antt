@@ -88,12 +88,11 @@ added-requires c =
     (turn_fits Q.loaded p Q.weights (omega arith) (own_read (goal.at.added-requires c).After-number-s) (c.loop-k.invariant.2 c.args.counts Q.game Q.loaded Q.weights refl (sequences_is c.args.counts p c.side-side.ensures Q.game Q.loaded.in_numbers.counts_are)))
 
 pub loop-k-preserved : goal.loop-k-preserved
-loop-k-preserved c =
-    (
-      omega arith,
-      simp length-set c.loop-k.invariant.1,
-      λ n g L W e q. turn_held L (player_of c.args.player) W (omega arith) (own_read (goal.at.loop-k-preserved c).After-number-s) (c.loop-k.invariant.2 n g L W e q) (to_z-of_z {w = w64} {z = c.added.result} (record { sfits = c.added.type_inv }) ∙ c.added.ensures ∙ adds (goal.at.loop-k-preserved c).After-opponent_term n g L W e),
-    )
+loop-k-preserved c = (
+  omega arith,
+  simp length-set c.loop-k.invariant.1,
+  λ n g L W e q. turn_held L (player_of c.args.player) W (omega arith) (own_read (goal.at.loop-k-preserved c).After-number-s) (c.loop-k.invariant.2 n g L W e q) (to_z-of_z {w = w64} {z = c.added.result} (record { sfits = c.added.type_inv }) ∙ c.added.ensures ∙ adds (goal.at.loop-k-preserved c).After-opponent_term n g L W e),
+)
 
 pub side-side-requires : goal.side-side-requires
 side-side-requires c = c.requires.0.is_player

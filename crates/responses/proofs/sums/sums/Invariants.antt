@@ -13,7 +13,7 @@ use Rattle.responses.proofs.LeafLaws.{leaf_sum_of}
 use Rattle.responses.proofs.sums.sums.Given as goal
 
 abbrev pub invariant-loop-k : goal.invariant-loop-k
-invariant-loop-k l =     (l.k ≤ l.leaves)
+invariant-loop-k l = (l.k ≤ l.leaves)
     × (length l.out ≡ length l.initial.out)
     × ((c : Counts) (g : Game) → Loaded g c l.numbers l.payoffs → Weights g (other (player_of l.player)) l.y → l.leaves ≡ c.leaves → l.sequences ≡ sequence_count g (player_of l.player) → HoldsZ (leaf_sum_of g (player_of l.player) (plan_by_number g (other (player_of l.player)) (item l.y)) l.k) (sequence_count g (player_of l.player)) l.out)
 

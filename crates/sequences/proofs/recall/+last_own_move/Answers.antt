@@ -56,7 +56,7 @@ returns-then-parent-stored t c = λ g l S.
     let v = parent_in S z l e in
     number_stored S z l e
     (elim c.if-kind-eq-DECISION.branch [
-      then-kind-eq-DECISION+else-owner-player w ↦ let D = decision_read S.decoded v S.rooted k w.if-kind-eq-DECISION.true w.number-set.ensures.0 in other_decision D _ (not_owner g S.decoded.sets_decoded.players _ _ c.requires.1 D.below (λ i. w.if-owner-player.false (w.number-owner.ensures.0 ∙ i)))
+      | then-kind-eq-DECISION+else-owner-player w ↦ let D = decision_read S.decoded v S.rooted k w.if-kind-eq-DECISION.true w.number-set.ensures.0 in other_decision D _ (not_owner g S.decoded.sets_decoded.players _ _ c.requires.1 D.below (λ i. w.if-owner-player.false (w.number-owner.ensures.0 ∙ i)))
       | else-kind-eq-DECISION w ↦ no_decision g _ _ (λ i. w.if-kind-eq-DECISION.false (k ∙ kind_read S.decoded v ∙ i))
     ])
     c.if-parent-stored.true c.own_section.ensures c.number.ensures.0
@@ -76,7 +76,7 @@ returns t c = λ g l S.
     let v = parent_in S z l e in
     number_walked S z l e
     (elim c.if-kind-eq-DECISION.branch [
-      then-kind-eq-DECISION+else-owner-player w ↦ let D = decision_read S.decoded v S.rooted k w.if-kind-eq-DECISION.true w.number-set.ensures.0 in other_decision D _ (not_owner g S.decoded.sets_decoded.players _ _ c.requires.1 D.below (λ i. w.if-owner-player.false (w.number-owner.ensures.0 ∙ i)))
+      | then-kind-eq-DECISION+else-owner-player w ↦ let D = decision_read S.decoded v S.rooted k w.if-kind-eq-DECISION.true w.number-set.ensures.0 in other_decision D _ (not_owner g S.decoded.sets_decoded.players _ _ c.requires.1 D.below (λ i. w.if-owner-player.false (w.number-owner.ensures.0 ∙ i)))
       | else-kind-eq-DECISION w ↦ no_decision g _ _ (λ i. w.if-kind-eq-DECISION.false (k ∙ kind_read S.decoded v ∙ i))
     ])
     (c.last_own_move.ensures g v S)

@@ -8,7 +8,7 @@ use Rattle.sequences.specs.Recall.{OwnStored}
 use Rattle.sequences.proofs.recall.own_numbers.Given as goal
 
 abbrev pub invariant-loop-n : goal.invariant-loop-n
-invariant-loop-n l =     (l.n ≤ l.nodes) × Apart (own_section_of (player_of l.player)) (own_section_of (player_of l.player) + section_room) l.initial.numbers l.numbers × ((g : Game) → l.nodes ≡ g.nodes → OwnStored g (player_of l.player) 0 l.initial.numbers → OwnStored g (player_of l.player) l.n l.numbers)
+invariant-loop-n l = (l.n ≤ l.nodes) × Apart (own_section_of (player_of l.player)) (own_section_of (player_of l.player) + section_room) l.initial.numbers l.numbers × ((g : Game) → l.nodes ≡ g.nodes → OwnStored g (player_of l.player) 0 l.initial.numbers → OwnStored g (player_of l.player) l.n l.numbers)
 
 abbrev pub decreases-loop-n : goal.decreases-loop-n
 decreases-loop-n l = l.nodes - l.n

@@ -10,7 +10,7 @@ use Rattle.sequences.proofs.FirstNodes.{first_from}
 use Rattle.sequences.proofs.sets.first_nodes.Given as goal
 
 abbrev pub invariant-loop-left : goal.invariant-loop-left
-invariant-loop-left l =     (l.left ≤ l.nodes) × Apart first_node_section start_section l.initial.numbers l.numbers × ((g : Game) → l.nodes ≡ g.nodes → l.sets ≡ g.sets → Decoded g l.initial.numbers → Rooted g → Held first_node_section (first_from g l.left) g.sets l.numbers)
+invariant-loop-left l = (l.left ≤ l.nodes) × Apart first_node_section start_section l.initial.numbers l.numbers × ((g : Game) → l.nodes ≡ g.nodes → l.sets ≡ g.sets → Decoded g l.initial.numbers → Rooted g → Held first_node_section (first_from g l.left) g.sets l.numbers)
 
 abbrev pub decreases-loop-left : goal.decreases-loop-left
 decreases-loop-left l = l.left

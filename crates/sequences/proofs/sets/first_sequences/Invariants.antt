@@ -12,7 +12,7 @@ use Rattle.sequences.proofs.FirstSequences.{next_number}
 use Rattle.sequences.proofs.sets.first_sequences.Given as goal
 
 abbrev pub invariant-loop-h : goal.invariant-loop-h
-invariant-loop-h l =     (l.h ≤ l.sets) × (length l.next ≡ 2) × Apart start_section (own_section_of one) l.initial.numbers l.numbers × ((g : Game) → l.sets ≡ g.sets → Decoded g l.initial.numbers → Held start_section (first_sequence g) l.h l.numbers × Holds (next_number g l.h) 2 l.next)
+invariant-loop-h l = (l.h ≤ l.sets) × (length l.next ≡ 2) × Apart start_section (own_section_of one) l.initial.numbers l.numbers × ((g : Game) → l.sets ≡ g.sets → Decoded g l.initial.numbers → Held start_section (first_sequence g) l.h l.numbers × Holds (next_number g l.h) 2 l.next)
 
 abbrev pub decreases-loop-h : goal.decreases-loop-h
 decreases-loop-h l = l.sets - l.h

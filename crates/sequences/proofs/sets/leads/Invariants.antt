@@ -9,7 +9,7 @@ use Rattle.sequences.specs.Recall.{OwnFilled}
 use Rattle.sequences.proofs.sets.leads.Given as goal
 
 abbrev pub invariant-loop-h : goal.invariant-loop-h
-invariant-loop-h l =     (l.h ≤ l.sets) × Apart lead_section order_section l.initial.numbers l.numbers × ((g : Game) → l.sets ≡ g.sets → OwnFilled g l.initial.numbers → Held lead_section (leading_number g) l.h l.numbers)
+invariant-loop-h l = (l.h ≤ l.sets) × Apart lead_section order_section l.initial.numbers l.numbers × ((g : Game) → l.sets ≡ g.sets → OwnFilled g l.initial.numbers → Held lead_section (leading_number g) l.h l.numbers)
 
 abbrev pub decreases-loop-h : goal.decreases-loop-h
 decreases-loop-h l = l.sets - l.h

@@ -10,7 +10,7 @@ use Rattle.checks.proofs.Passes.{Passed}
 use Rattle.sequences.proofs.sets.sets_non_empty.Given as goal
 
 abbrev pub invariant-loop-h : goal.invariant-loop-h
-invariant-loop-h l =     (l.h ≤ l.sets) × ((g : Game) → l.nodes ≡ g.nodes → l.sets ≡ g.sets → Held first_node_section (first_node g) g.sets l.numbers → Passed (λ k. any_to g.nodes (in_set g k)) g.sets l.h)
+invariant-loop-h l = (l.h ≤ l.sets) × ((g : Game) → l.nodes ≡ g.nodes → l.sets ≡ g.sets → Held first_node_section (first_node g) g.sets l.numbers → Passed (λ k. any_to g.nodes (in_set g k)) g.sets l.h)
 
 abbrev pub decreases-loop-h : goal.decreases-loop-h
 decreases-loop-h l = l.sets - l.h
