@@ -197,14 +197,14 @@ fn say_columns(
     payoffs1: &[i64],
     payoffs2: &[i64],
 ) {
-    say_numbers(b" set_players_lem", set_players);
-    say_numbers(b" set_moves_lem", set_moves);
+    say_numbers(b" set-players", set_players);
+    say_numbers(b" set-moves", set_moves);
     say_numbers(b" kinds", kinds);
     say_numbers(b" parents", parents);
     say_numbers(b" moves", moves);
     say_numbers(b" weights", weights);
-    say_numbers(b" node_sets_lem", node_sets);
-    say_numbers(b" chance_moves_lem", chance_moves);
+    say_numbers(b" node-sets", node_sets);
+    say_numbers(b" chance-moves", chance_moves);
     say_signed_numbers(b" payoffs1", payoffs1);
     say_signed_numbers(b" payoffs2", payoffs2);
     say(b"\n");

@@ -159,7 +159,7 @@ fn reread_game(
         &mut payoffs1_out,
         payoffs2_out,
     ));
-    say_numbers(b" set_players_lem", &set_players_out);
+    say_numbers(b" set-players", &set_players_out);
     say_numbers(b" parents", &parents_out);
     say_signed_numbers(b" payoffs2", payoffs2_out);
     say(b"\n");
