@@ -1,9 +1,13 @@
 -- What a read or a write moves, what follows it, and when a text is written whole.
-use Rattle.std.specs.Prelude.{ℕ, zero, suc, ◌+◌, ◌≤◌, Bool, List, eqb, length}
+use Rattle.std.specs.Prelude.{◌≡◌, ℕ, zero, suc, ◌+◌, ◌≤◌, Bool, List, eqb, length, take}
 use Rattle.files.specs.declared.Part.{Part}
 use Rattle.files.specs.declared.Part.TheVariants.{Bytes, Failed}
 use Rattle.files.specs.declared.Next.{Next}
 use Rattle.files.specs.declared.Next.TheVariants.{More, End}
+
+-- `&xs[..n]` is in bounds and has n bytes. The second part follows from the first.
+abbrev pub IsPrefixLen : ℕ → List ℕ → Type 0
+IsPrefixLen n xs = (n ≤ length xs) × (n ≡ length (take n xs))
 
 -- no more bytes than there is room for, or than there are to be written
 abbrev pub Within : (room : ℕ) → Part → Type 0
