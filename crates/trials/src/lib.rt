@@ -1,5 +1,6 @@
 // What the programs that try the calls share: the files of their cases, and what they print.
 #![tactic(auto)]
+
 ghost use Rattle.std.specs.Prelude.{◌≡◌, ◌≤◌, length};
 ghost use Rattle.files.specs.Parts.{IsPrefixLen};
 
