@@ -21,6 +21,12 @@ pub use output::{
 // One more than the bytes of the longest legal file, so that a longer one is refused and not cut to fit.
 pub const ROOM: usize = Header::LONGEST_FILE + 1;
 
+// As many bytes as a list of the paths of cases has at most.
+pub const LIST: usize = 65536;
+
+// As many bytes as a list of the names of cases has at most.
+pub const NAMES: usize = 4096;
+
 // What a list's cases are tried for: their answers, or their answers with buffers of many lengths.
 #[derive(Clone, Copy)]
 pub enum Trial {
