@@ -24,8 +24,7 @@ fn repeat(numbers: &[u16], payoffs: &[i16], counts: Counts, y: &[u16], times: us
     let mut sums = [0i64; NodeRecord::NODES];
     let mut worths = [0i64; NodeRecord::NODES];
     let mut moves = [0u16; NodeRecord::NODES];
-    let mut k = 0;
-    while k < times {
+    for _ in 0..times {
         responses::best_response(
             numbers,
             payoffs,
@@ -36,7 +35,6 @@ fn repeat(numbers: &[u16], payoffs: &[i16], counts: Counts, y: &[u16], times: us
             &mut worths,
             &mut moves,
         );
-        k += 1;
     }
     moves[0]
 }

@@ -54,10 +54,8 @@ fn check_of_sums(rows: usize, column: &[i64]) -> u64
     requires { rows ≤ length column.now }
 {
     let mut check = 0;
-    let mut at = 0;
-    while at < rows {
+    for at in 0..rows {
         check = sum_taken_in(check, column[at]);
-        at += 1;
     }
     check
 }
@@ -81,10 +79,8 @@ fn say_rows(
 )
     requires { (end ≤ length sequence1.now) × (end ≤ length sequence2.now) × (end ≤ length sum1.now) × (end ≤ length sum2.now) }
 {
-    let mut at = start;
-    while at < end {
+    for at in start..end {
         say_row(rt, sequence1[at], sequence2[at], sum1[at], sum2[at]);
-        at += 1;
     }
 }
 
@@ -242,14 +238,12 @@ fn try_room(
 
 // Buffers of one length, and each of them by itself of that length.
 fn try_rooms(rt: &impl Print, game: &[u8]) {
-    let mut room = 0;
-    while room <= MOST {
+    for room in 0..=MOST {
         try_room(rt, game, room, room, room, room);
         try_room(rt, game, room, MOST, MOST, MOST);
         try_room(rt, game, MOST, room, MOST, MOST);
         try_room(rt, game, MOST, MOST, room, MOST);
         try_room(rt, game, MOST, MOST, MOST, room);
-        room += 1;
     }
 }
 
@@ -266,10 +260,8 @@ fn say_held(rt: &impl Print, row: Row) {
 fn say_all_held(rt: &impl Print, rows: [Row; ROWS], room: usize)
     requires { room ≤ count_limit }
 {
-    let mut at = 0;
-    while at < room {
+    for at in 0..room {
         say_held(rt, rows[at]);
-        at += 1;
     }
 }
 
@@ -284,10 +276,8 @@ fn row_taken_in(check: u64, row: Row) -> u64 {
 // A check of all rows.
 fn check_of_rows(rows: [Row; ROWS]) -> u64 {
     let mut check = 0;
-    let mut at = 0;
-    while at < ROWS {
+    for at in 0..ROWS {
         check = row_taken_in(check, rows[at]);
-        at += 1;
     }
     check
 }
@@ -322,11 +312,9 @@ fn try_as_rows(rt: &impl Print, game: &[u8], room: usize)
 
 // A line for each number of rows up to a few.
 fn try_rooms_as_rows(rt: &impl Print, game: &[u8]) {
-    let mut room = 0;
-    while room <= MOST {
+    for room in 0..=MOST {
         say_number(rt, b"rows ", room as u64);
         try_as_rows(rt, game, room);
-        room += 1;
     }
 }
 

@@ -139,10 +139,8 @@ fn look_up(rt: &impl Print, game: &[u8], table: Table, number: u64) {
 
 // Each number below the count, the count itself and the largest number of all.
 fn look_up_all(rt: &impl Print, game: &[u8], table: Table, count: u64) {
-    let mut number = 0;
-    while number < count {
+    for number in 0..count {
         look_up(rt, game, table, number);
-        number += 1;
     }
     look_up(rt, game, table, count);
     look_up(rt, game, table, u64::MAX);

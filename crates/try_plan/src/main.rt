@@ -59,10 +59,8 @@ fn try_room(rt: &impl Print, game: &[u8], plan: &[u8], room: usize)
 
 // Buffers of each length, from none to the most entries.
 fn try_rooms(rt: &impl Print, game: &[u8], plan: &[u8]) {
-    let mut room = 0;
-    while room <= MOST {
+    for room in 0..=MOST {
         try_room(rt, game, plan, room);
-        room += 1;
     }
 }
 

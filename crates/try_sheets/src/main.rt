@@ -93,10 +93,8 @@ fn try_room(rt: &impl Print, made: Made, game: &[u8], given: &[u8], room: usize)
 
 // Buffers of each length, from none to the most bytes.
 fn try_rooms(rt: &impl Print, made: Made, game: &[u8], given: &[u8]) {
-    let mut room = 0;
-    while room <= MOST {
+    for room in 0..=MOST {
         try_room(rt, made, game, given, room);
-        room += 1;
     }
 }
 

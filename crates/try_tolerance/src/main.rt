@@ -40,10 +40,8 @@ fn number_at(bytes: &[u8], at: usize) -> u16
 // A line for each of the tolerances.
 fn try_tolerances(rt: &impl Print, name: &[u8], game: &[u8], plan: &[u8], tolerances: &[u8]) {
     let count = tolerances.len() / 2;
-    let mut i = 0;
-    while i < count {
+    for i in 0..count {
         try_tolerance(rt, name, game, plan, number_at(tolerances, 2 * i));
-        i += 1;
     }
 }
 

@@ -155,10 +155,8 @@ fn try_words(rt: &impl Print, kind: Kind, words: &[u64])
 fn read_words(file: &[u8], words: &mut [u64])
     requires { length words.old ≡ 172 }
 {
-    let mut i = 0;
-    while i < WORDS {
+    for i in 0..WORDS {
         words[i] = bits::read_field(file, 64 * i, 64);
-        i += 1;
     }
 }
 
