@@ -3,4 +3,4 @@ use Rattle.std.proofs.Common.{◌-◌, length}
 use Rattle.try_form.proofs.try_list.Given as goal
 
 abbrev pub decreases-loop-game : goal.decreases-loop-game
-decreases-loop-game l = length l.list - l.game
+decreases-loop-game g l = length l.list - l.game

@@ -3,4 +3,4 @@ use Rattle.std.proofs.Common.{◌-◌, length}
 use Rattle.try_writers.proofs.try_cases.Given as goal
 
 abbrev pub decreases-loop-start : goal.decreases-loop-start
-decreases-loop-start l = length l.names - l.start
+decreases-loop-start g l = length l.names - l.start
