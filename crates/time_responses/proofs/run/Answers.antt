@@ -1,11 +1,5 @@
 -- A pair that was read and fits: its game is loaded, and player 2's weights are in their array.
-use mathlib.Core.List.{List}
-use mathlib.Core.Path.{◌≡◌}
-use Prim.Native.Nat.{ℕ}
-use native.Mathlib.Omega.{arith}
-use borrow.Author.Rules.{rules}
-use lib.IntN.{ℤ}
-use lib.ListN.{replicate}
+use Rattle.std.proofs.Common.{◌≡◌, ℕ, List, ℤ, arith, refl, replicate}
 use Rattle.model.specs.Limits.{count_limit}
 use Rattle.model.specs.Game.{game_of, two}
 use Rattle.pair.specs.declared.PairHeader.{PairHeader}
@@ -15,8 +9,7 @@ use Rattle.pair.specs.Refusals.{PairRead}
 use Rattle.plan.proofs.ByNumber.{small_number}
 use Rattle.pair.proofs.Pairs.{pair_opened, pair_holds}
 use Rattle.responses.specs.Responses.{ResponseAsked}
-use Rattle.time_responses.proofs.run.Statement.{statement}
-use Rattle.time_responses.proofs.run.Tie as tie
+use Rattle.time_responses.proofs.run.Goals as goal
 
 -- player 1's best response can be asked for
 asked : (game plan : List ℕ) {a : PairAnswer} {h : PairHeader} {numbers : List ℕ} {payoffs : List ℤ} {x y : List ℕ} → PairRead game plan a numbers payoffs (replicate count_limit 0) x (replicate count_limit 0) y → a ≡ Fits h → ResponseAsked h.counts numbers payoffs 0 y
@@ -30,28 +23,5 @@ asked game plan read fits =
       weights = record { long = held.long; small = λ i l. omega (arith, held.at i l, small_number (game_of game) plan two i) };
     }
 
-repeat_requires : tie.Need-repeat-requires
-repeat_requires c κs =
-    let a = c.before.before.before.before.before.before.before.before.before.before.before.before.before.before.before.before.before.args in
-    asked a.game.now a.plan.now c.before.before.before.before.before.before.before.before.before.before.read.ensures c.before.before.before.before.answer.given.1
-
-pub run_spec : {M : Type 1} → statement M
-run_spec =
-    tie.close
-    (tie.spec
-    (λ c. search rules)
-    (λ c. search rules)
-    (λ c. search rules)
-    (λ c. search rules)
-    (λ c κs. search rules)
-    (λ c. search rules)
-    (λ c. search rules)
-    (λ c. search rules)
-    (λ c κs. search rules)
-    (λ c. search rules)
-    (λ c. search rules)
-    (λ c. search rules)
-    (λ c. search rules)
-    repeat_requires
-    (λ c κs. search rules)
-    (λ c. search rules))
+pub repeat-requires : goal.repeat-requires
+repeat-requires g c = asked c.args.game.now c.args.plan.now c.in-Fits.ensures refl
