@@ -2,8 +2,9 @@
 // what follows each read and each write is decided here, and stated.
 #![tactic(auto)]
 
-ghost use Rattle.std.specs.Prelude.{◌-◌, ◌^◌, ◌≡◌, length};
-ghost use Rattle.files.specs.Parts.{IsPrefixLen, Within, next_after_of, after_read_of, after_write_of, is_whole};
+ghost use Rattle.std.specs.Prelude.{◌-◌, ◌^◌, ◌≡◌, length, take};
+ghost use Rattle.std.specs.Io.KnownBytes.{Appends};
+ghost use Rattle.files.specs.Parts.{IsPrefixLen, Taken, Within, next_after_of, after_read_of, after_write_of, is_whole};
 
 use std::fs::File;
 use std::io::{ErrorKind, Read, Write};
@@ -98,7 +99,8 @@ pub fn load<R: Files>(rt: &R, name: &[u8], buffer: &mut [u8]) -> usize
 
 // One write of the bytes.
 fn write_part<W: Write>(to: &mut W, bytes: &[u8]) -> Part
-    ensures { Within (length bytes.now) result }
+    ensures within { Within (length bytes.now) result }
+    ensures taken { Taken (W.contents to.old) (W.contents to.new) bytes.now result }
 {
     for _ in 0..TRIES {
         match to.write(bytes) {
@@ -122,8 +124,10 @@ fn after_write(done: usize, part: Part) -> Next
 }
 
 // Writes until the whole text is taken, or a write fails or takes nothing, and gives how many bytes were taken.
+// Where it is known what the writer holds, it holds just those bytes more.
 pub fn write_whole<W: Write>(to: &mut W, text: &[u8]) -> usize
-    ensures { IsPrefixLen result text.now }
+    ensures prefix_len { IsPrefixLen result text.now }
+    ensures taken { Appends (W.contents to.old) (W.contents to.new) (take result text.now) }
 {
     let mut done = 0;
     while done < text.len() {
