@@ -3,17 +3,18 @@
 #![tactic(auto)]
 
 ghost use Rattle.std.specs.Prelude.{ℕ, suc, ◌≤◌, ◌≡◌, List, length};
-ghost use Rattle.io.specs.Counts.{IsPrefixLen};
 ghost use Rattle.model.specs.Report.{longest_game, longest_plan, printed};
 ghost use Rattle.text.specs.Text.{Put};
 ghost use Rattle.report.specs.Whole.{most};
+ghost use Rattle.files.specs.Parts.{IsPrefixLen};
 ghost use Rattle.desk.specs.Files.{Loaded};
 ghost use Rattle.desk.specs.Arguments.{is_alone_of};
 
-use libc::{STDERR_FILENO, STDOUT_FILENO};
 use records::{Header, PlanHeader};
 use report::MOST;
 use report::printing::put_printed;
+use std::env::FillError;
+use std::rt::Env;
 
 // One byte more than the longest game file that can be accepted has, so that a longer one is refused and not cut to fit.
 const GAME: usize = Header::LONGEST_FILE + 1;
@@ -34,23 +35,23 @@ fn put_text(game: &[u8], game_count: usize, plan: &[u8], plan_count: usize, out:
 }
 
 // Prints a text. One that standard output does not take whole must not pass for one that it took.
-fn print(text: &[u8]) {
-    let taken = files::write_whole(STDOUT_FILENO, text);
+fn print(rt: &HostRuntime, text: &[u8]) {
+    let taken = files::write_whole(&mut rt.stdout(), text);
     if files::is_whole(taken, text) {
         return;
     }
-    files::write_whole(STDERR_FILENO, b"the text was not written whole\n");
+    files::write_whole(&mut rt.stderr(), b"the text was not written whole\n");
 }
 
 // Judges the files of the working folder.
-fn judge() {
+fn judge(rt: &HostRuntime) {
     let mut game = [0u8; GAME];
-    let game_count = files::load(b"game.bin", &mut game);
+    let game_count = files::load(rt, b"game.bin", &mut game);
     let mut plan = [0u8; PLAN];
-    let plan_count = files::load(b"plan.bin", &mut plan);
+    let plan_count = files::load(rt, b"plan.bin", &mut plan);
     let mut out = [0u8; MOST];
     let size = put_text(&game, game_count, &plan, plan_count, &mut out);
-    print(&out[..size]);
+    print(rt, &out[..size]);
 }
 
 // Whether the program is started by its name alone, with no arguments.
@@ -60,13 +61,24 @@ fn is_alone(words: usize) -> bool
     words < 2
 }
 
-fn main() {
-    if is_alone(os::arg_count()) {
-        judge();
+// How many words the program is started with; its own name is the first.
+fn count_words(rt: &impl Env) -> usize {
+    let mut word = [0u8; 1];
+    for words in 0..usize::MAX {
+        if let Err(FillError::NotPresent) = rt.arg(words, &mut word) {
+            return words;
+        }
+    }
+    usize::MAX
+}
+
+fn main(rt: HostRuntime) {
+    if is_alone(count_words(&rt)) {
+        judge(&rt);
         return;
     }
     files::write_whole(
-        STDERR_FILENO,
+        &mut rt.stderr(),
         b"usage: desk, with game.bin and plan.bin in the working folder; it takes no arguments\n",
     );
 }

@@ -2,11 +2,14 @@
 // what follows each read and each write is decided here, and stated.
 #![tactic(auto)]
 
-ghost use Rattle.std.specs.Prelude.{◌-◌, ◌^◌, ◌≡◌, length};
-ghost use Rattle.io.specs.Counts.{IsPrefixLen};
-ghost use Rattle.files.specs.Parts.{Within, next_after_of, after_read_of, after_write_of, is_whole};
+ghost use Rattle.std.specs.Prelude.{◌-◌, ◌^◌, ◌≡◌, length, take};
+ghost use Rattle.std.specs.Io.KnownBytes.{Appends};
+ghost use Rattle.files.specs.Parts.{IsPrefixLen, Taken, Within, next_after_of, after_read_of, after_write_of, is_whole};
 
-use libc::EINTR;
+use std::fs::File;
+use std::io::{ErrorKind, Read, Write};
+use std::rt::Files;
+use std::str::from_utf8;
 
 // How often a read or a write that a signal interrupts is made, at most.
 const TRIES: usize = 1000;
@@ -26,19 +29,18 @@ enum Next {
 }
 
 // One read into the buffer.
-fn read_part(file: i32, buffer: &mut [u8]) -> Part
+fn read_part<R: Read>(file: &mut R, buffer: &mut [u8]) -> Part
     ensures { Within (length buffer.new) result }
 {
-    let mut tries = TRIES;
-    while tries > 0 {
-        let got = libc::read(file, buffer);
-        if got >= 0 {
-            return Part::Bytes(io::count(got, buffer));
+    for _ in 0..TRIES {
+        match file.read(buffer) {
+            Ok(count) => return Part::Bytes(count),
+            Err(error) => {
+                if error.kind() != ErrorKind::Interrupted {
+                    return Part::Failed;
+                }
+            }
         }
-        if os::errno() != EINTR {
-            return Part::Failed;
-        }
-        tries -= 1;
     }
     Part::Failed
 }
@@ -66,7 +68,7 @@ fn after_read(done: usize, part: Part) -> Next
 }
 
 // Reads to the file's end, or until the buffer is full, and gives how many bytes; none where a read fails.
-fn read_whole(file: i32, buffer: &mut [u8]) -> usize
+fn read_whole<R: Read>(file: &mut R, buffer: &mut [u8]) -> usize
     ensures { IsPrefixLen result buffer.new }
 {
     let mut done = 0;
@@ -82,32 +84,33 @@ fn read_whole(file: i32, buffer: &mut [u8]) -> usize
 }
 
 // The file's bytes at the start of the buffer, and how many: an absent or unreadable file counts as empty.
-pub fn load(name: &[u8], buffer: &mut [u8]) -> usize
+// A file can be opened only by a name that is UTF-8.
+pub fn load<R: Files>(rt: &R, name: &[u8], buffer: &mut [u8]) -> usize
     ensures { IsPrefixLen result buffer.new }
 {
-    let file = os::open_read(name);
-    if file < 0 {
+    let Ok(path) = from_utf8(name) else {
         return 0;
-    }
-    let count = read_whole(file, buffer);
-    libc::close(file);
-    count
+    };
+    let Ok(mut file) = File::open(rt, path) else {
+        return 0;
+    };
+    read_whole(&mut file, buffer)
 }
 
 // One write of the bytes.
-fn write_part(file: i32, bytes: &[u8]) -> Part
-    ensures { Within (length bytes.now) result }
+fn write_part<W: Write>(to: &mut W, bytes: &[u8]) -> Part
+    ensures within { Within (length bytes.now) result }
+    ensures taken { Taken (W.contents to.old) (W.contents to.new) bytes.now result }
 {
-    let mut tries = TRIES;
-    while tries > 0 {
-        let taken = libc::write(file, bytes);
-        if taken >= 0 {
-            return Part::Bytes(io::count(taken, bytes));
+    for _ in 0..TRIES {
+        match to.write(bytes) {
+            Ok(count) => return Part::Bytes(count),
+            Err(error) => {
+                if error.kind() != ErrorKind::Interrupted {
+                    return Part::Failed;
+                }
+            }
         }
-        if os::errno() != EINTR {
-            return Part::Failed;
-        }
-        tries -= 1;
     }
     Part::Failed
 }
@@ -121,12 +124,14 @@ fn after_write(done: usize, part: Part) -> Next
 }
 
 // Writes until the whole text is taken, or a write fails or takes nothing, and gives how many bytes were taken.
-pub fn write_whole(file: i32, text: &[u8]) -> usize
-    ensures { IsPrefixLen result text.now }
+// Where it is known what the writer holds, it holds just those bytes more.
+pub fn write_whole<W: Write>(to: &mut W, text: &[u8]) -> usize
+    ensures prefix_len { IsPrefixLen result text.now }
+    ensures taken { Appends (W.contents to.old) (W.contents to.new) (take result text.now) }
 {
     let mut done = 0;
     while done < text.len() {
-        let part = write_part(file, &text[done..]);
+        let part = write_part(to, &text[done..]);
         let next = after_write(done, part);
         match next {
             Next::More(count) => done = count,

@@ -8,12 +8,13 @@ ghost use Rattle.responses.specs.Responses.{ResponseAsked};
 use loaded::{Counts, Section};
 use pair::PairAnswer;
 use records::NodeRecord;
+use std::rt::Files;
 use trials::{ROOM, load, say, say_number};
 
 // A line with the best move of set 0, or 0 where that is player 2's.
-fn say_move(number: u16) {
-    say_number(b"best move of set 0: ", number as u64);
-    say(b"\n");
+fn say_move(rt: &impl Print, number: u16) {
+    say_number(rt, b"best move of set 0: ", number as u64);
+    say(rt, b"\n");
 }
 
 // The best responses, over the loaded game: the last one's best move of set 0.
@@ -23,8 +24,7 @@ fn repeat(numbers: &[u16], payoffs: &[i16], counts: Counts, y: &[u16], times: us
     let mut sums = [0i64; NodeRecord::NODES];
     let mut worths = [0i64; NodeRecord::NODES];
     let mut moves = [0u16; NodeRecord::NODES];
-    let mut k = 0;
-    while k < times {
+    for _ in 0..times {
         responses::best_response(
             numbers,
             payoffs,
@@ -35,23 +35,22 @@ fn repeat(numbers: &[u16], payoffs: &[i16], counts: Counts, y: &[u16], times: us
             &mut worths,
             &mut moves,
         );
-        k += 1;
     }
     moves[0]
 }
 
 // On both files.
-fn run(game: &[u8], plan: &[u8], times: usize) {
+fn run(rt: &impl Print, game: &[u8], plan: &[u8], times: usize) {
     let mut numbers = [0u16; Section::NUMBERS];
     let mut payoffs = [0i16; Section::PAYOFFS];
     let mut x = [0u16; NodeRecord::NODES];
     let mut y = [0u16; NodeRecord::NODES];
     let answer = pair::read(game, plan, &mut numbers, &mut payoffs, &mut x, &mut y);
     let PairAnswer::Fits(pair) = answer else {
-        say(b"refused\n");
+        say(rt, b"refused\n");
         return;
     };
-    say_move(repeat(&numbers, &payoffs, pair.counts, &y, times));
+    say_move(rt, repeat(&numbers, &payoffs, pair.counts, &y, times));
 }
 
 // A byte as a number.
@@ -62,16 +61,16 @@ fn wide(byte: u8) -> usize
 }
 
 // How often.
-fn times() -> usize {
+fn times(rt: &(impl Files + Print)) -> usize {
     let mut bytes = [0u8; 2];
-    load(b"times", &mut bytes);
+    load(rt, b"times", &mut bytes);
     wide(bytes[0]) * 256 + wide(bytes[1])
 }
 
-fn main() {
+fn main(rt: HostRuntime) {
     let mut game = [0u8; ROOM];
     let mut plan = [0u8; ROOM];
-    let game_file = load(b"game.bin", &mut game);
-    let plan_file = load(b"plan.bin", &mut plan);
-    run(game_file, plan_file, times());
+    let game_file = load(&rt, b"game.bin", &mut game);
+    let plan_file = load(&rt, b"plan.bin", &mut plan);
+    run(&rt, game_file, plan_file, times(&rt));
 }

@@ -2,9 +2,10 @@
 #![tactic(auto)]
 
 use entry::{FieldsAnswer, GameAnswer, NodeAnswer, Place, SequenceAnswer, SetAnswer};
+use std::rt::Files;
 use trials::lists::{line_at, next_line};
 use trials::{
-    ROOM, load, say, say_heading, say_number, say_numbers, say_signed, say_signed_numbers,
+    NAMES, ROOM, load, say, say_heading, say_number, say_numbers, say_signed, say_signed_numbers,
 };
 
 // What a number is looked up as.
@@ -22,129 +23,127 @@ struct Size {
 }
 
 // A payoff with its sign.
-fn say_payoff(payoff: i16) {
-    say_signed(b" ", payoff as i64);
+fn say_payoff(rt: &impl Print, payoff: i16) {
+    say_signed(rt, b" ", payoff as i64);
 }
 
 // The number of a refusal.
-fn say_refusal(number: u64) {
-    say_number(b": refusal ", number);
+fn say_refusal(rt: &impl Print, number: u64) {
+    say_number(rt, b": refusal ", number);
 }
 
 // The answer to a game file.
-fn say_game(answer: GameAnswer) {
+fn say_game(rt: &impl Print, answer: GameAnswer) {
     match answer {
         GameAnswer::Accepted {
             nodes,
             sets,
             root_weight,
         } => {
-            say_number(b": accepted ", nodes);
-            say_number(b" ", sets);
-            say_number(b" ", root_weight);
+            say_number(rt, b": accepted ", nodes);
+            say_number(rt, b" ", sets);
+            say_number(rt, b" ", root_weight);
         }
-        GameAnswer::Refused(number) => say_refusal(number),
+        GameAnswer::Refused(number) => say_refusal(rt, number),
     }
 }
 
 // The answer for a set.
-fn say_set(answer: SetAnswer) {
+fn say_set(rt: &impl Print, answer: SetAnswer) {
     match answer {
         SetAnswer::Entry { player, moves } => {
-            say_number(b": player bit ", player);
-            say_number(b" moves ", moves);
+            say_number(rt, b": player bit ", player);
+            say_number(rt, b" moves ", moves);
         }
-        SetAnswer::Refused(number) => say_refusal(number),
+        SetAnswer::Refused(number) => say_refusal(rt, number),
     }
 }
 
 // The answer for a set's own sequence.
-fn say_sequence(answer: SequenceAnswer) {
+fn say_sequence(rt: &impl Print, answer: SequenceAnswer) {
     match answer {
-        SequenceAnswer::Sequence(own) => say_number(b": own sequence ", own.number),
-        SequenceAnswer::Refused(number) => say_refusal(number),
+        SequenceAnswer::Sequence(own) => say_number(rt, b": own sequence ", own.number),
+        SequenceAnswer::Refused(number) => say_refusal(rt, number),
     }
 }
 
 // What every node record has.
-fn say_place(at: Place) {
-    say_number(b" parent ", at.parent);
-    say_number(b" move ", at.place);
-    say_number(b" weight ", at.weight);
+fn say_place(rt: &impl Print, at: Place) {
+    say_number(rt, b" parent ", at.parent);
+    say_number(rt, b" move ", at.place);
+    say_number(rt, b" weight ", at.weight);
 }
 
 // The answer for a node.
-fn say_node(answer: NodeAnswer) {
+fn say_node(rt: &impl Print, answer: NodeAnswer) {
     match answer {
         NodeAnswer::Leaf {
             at,
             payoff1,
             payoff2,
         } => {
-            say(b": leaf");
-            say_place(at);
-            say(b" payoffs");
-            say_payoff(payoff1);
-            say_payoff(payoff2);
+            say(rt, b": leaf");
+            say_place(rt, at);
+            say(rt, b" payoffs");
+            say_payoff(rt, payoff1);
+            say_payoff(rt, payoff2);
         }
         NodeAnswer::Decision { at, set } => {
-            say(b": decision");
-            say_place(at);
-            say_number(b" set ", set);
+            say(rt, b": decision");
+            say_place(rt, at);
+            say_number(rt, b" set ", set);
         }
         NodeAnswer::Chance { at, moves } => {
-            say(b": chance");
-            say_place(at);
-            say_number(b" moves ", moves);
+            say(rt, b": chance");
+            say_place(rt, at);
+            say_number(rt, b" moves ", moves);
         }
-        NodeAnswer::Refused(number) => say_refusal(number),
+        NodeAnswer::Refused(number) => say_refusal(rt, number),
     }
 }
 
 // The line of one case.
-fn try_case(name: &[u8]) {
+fn try_case(rt: &(impl Files + Print), name: &[u8]) {
     let mut buffer = [0u8; ROOM];
-    let game = load(name, &mut buffer);
-    say(name);
-    say_game(entry::check_game(game));
-    say(b"\n");
+    let game = load(rt, name, &mut buffer);
+    say(rt, name);
+    say_game(rt, entry::check_game(game));
+    say(rt, b"\n");
 }
 
 // The line of each case that the list names.
-fn try_cases(list: &[u8]) {
+fn try_cases(rt: &(impl Files + Print), list: &[u8]) {
     let mut start = 0;
     while start < list.len() {
-        try_case(line_at(list, start));
+        try_case(rt, line_at(list, start));
         start = next_line(list, start);
     }
 }
 
 // The line of one node, or the two of one set.
-fn look_up(game: &[u8], table: Table, number: u64) {
+fn look_up(rt: &impl Print, game: &[u8], table: Table, number: u64) {
     match table {
         Table::Sets => {
-            say_number(b"set ", number);
-            say_set(entry::set_entry(game, number));
-            say_number(b"\nset ", number);
-            say_sequence(entry::own_sequence(game, number));
+            say_number(rt, b"set ", number);
+            say_set(rt, entry::set_entry(game, number));
+            say_number(rt, b"\nset ", number);
+            say_sequence(rt, entry::own_sequence(game, number));
         }
         Table::Nodes => {
-            say_number(b"node ", number);
-            say_node(entry::node_record(game, number));
+            say_number(rt, b"node ", number);
+            say_node(rt, entry::node_record(game, number));
         }
     }
-    say(b"\n");
+    say(rt, b"\n");
 }
 
 // Each number below the count, the count itself and the largest number of all.
-fn look_up_all(game: &[u8], table: Table, count: u64) {
-    let mut number = 0;
-    while number < count {
-        look_up(game, table, number);
-        number += 1;
+fn look_up_all(rt: &impl Print, game: &[u8], table: Table, count: u64) {
+    for number in 0..count {
+        look_up(rt, game, table, number);
     }
-    look_up(game, table, count);
-    look_up(game, table, u64::MAX);
+    look_up(rt, game, table, count);
+    look_up(rt, game, table, u64::MAX);
 }
 
 // A refused game counts as one without sets and nodes.
@@ -160,33 +159,34 @@ fn measured(answer: GameAnswer) -> Size {
 }
 
 // The look-ups in one case.
-fn try_look_ups(name: &[u8]) {
+fn try_look_ups(rt: &(impl Files + Print), name: &[u8]) {
     let mut buffer = [0u8; ROOM];
-    let game = load(name, &mut buffer);
-    say_heading(b"look-ups in ", name);
+    let game = load(rt, name, &mut buffer);
+    say_heading(rt, b"look-ups in ", name);
     let size = measured(entry::check_game(game));
-    look_up_all(game, Table::Sets, size.sets);
-    look_up_all(game, Table::Nodes, size.nodes);
+    look_up_all(rt, game, Table::Sets, size.sets);
+    look_up_all(rt, game, Table::Nodes, size.nodes);
 }
 
 // The answer of the call for all fields.
-fn say_fields(answer: FieldsAnswer) {
+fn say_fields(rt: &impl Print, answer: FieldsAnswer) {
     match answer {
         FieldsAnswer::Given {
             nodes,
             sets,
             root_weight,
         } => {
-            say_number(b": given ", nodes);
-            say_number(b" ", sets);
-            say_number(b" ", root_weight);
+            say_number(rt, b": given ", nodes);
+            say_number(rt, b" ", sets);
+            say_number(rt, b" ", root_weight);
         }
-        FieldsAnswer::Refused(number) => say_refusal(number),
+        FieldsAnswer::Refused(number) => say_refusal(rt, number),
     }
 }
 
 // What the buffers hold.
 fn say_columns(
+    rt: &impl Print,
     set_players: &[u64],
     set_moves: &[u64],
     kinds: &[u64],
@@ -198,21 +198,22 @@ fn say_columns(
     payoffs1: &[i64],
     payoffs2: &[i64],
 ) {
-    say_numbers(b" set_players_lem", set_players);
-    say_numbers(b" set_moves_lem", set_moves);
-    say_numbers(b" kinds", kinds);
-    say_numbers(b" parents", parents);
-    say_numbers(b" moves", moves);
-    say_numbers(b" weights", weights);
-    say_numbers(b" node_sets_lem", node_sets);
-    say_numbers(b" chance_moves_lem", chance_moves);
-    say_signed_numbers(b" payoffs1", payoffs1);
-    say_signed_numbers(b" payoffs2", payoffs2);
-    say(b"\n");
+    say_numbers(rt, b" set-players", set_players);
+    say_numbers(rt, b" set-moves", set_moves);
+    say_numbers(rt, b" kinds", kinds);
+    say_numbers(rt, b" parents", parents);
+    say_numbers(rt, b" moves", moves);
+    say_numbers(rt, b" weights", weights);
+    say_numbers(rt, b" node-sets", node_sets);
+    say_numbers(rt, b" chance-moves", chance_moves);
+    say_signed_numbers(rt, b" payoffs1", payoffs1);
+    say_signed_numbers(rt, b" payoffs2", payoffs2);
+    say(rt, b"\n");
 }
 
 // The line of all fields: the answer, and what the buffers hold afterwards.
 fn try_fields(
+    rt: &impl Print,
     game: &[u8],
     set_players: &mut [u64],
     set_moves: &mut [u64],
@@ -225,21 +226,25 @@ fn try_fields(
     payoffs1: &mut [i64],
     payoffs2: &mut [i64],
 ) {
-    say(b"fields");
-    say_fields(entry::game_fields(
-        game,
-        set_players,
-        set_moves,
-        kinds,
-        parents,
-        moves,
-        weights,
-        node_sets,
-        chance_moves,
-        payoffs1,
-        payoffs2,
-    ));
+    say(rt, b"fields");
+    say_fields(
+        rt,
+        entry::game_fields(
+            game,
+            set_players,
+            set_moves,
+            kinds,
+            parents,
+            moves,
+            weights,
+            node_sets,
+            chance_moves,
+            payoffs1,
+            payoffs2,
+        ),
+    );
     say_columns(
+        rt,
         set_players,
         set_moves,
         kinds,
@@ -254,7 +259,7 @@ fn try_fields(
 }
 
 // Buffers of 7s for a game of 3 sets and 9 nodes, with room for one more of each; the last is given.
-fn try_buffers(game: &[u8], payoffs2: &mut [i64]) {
+fn try_buffers(rt: &impl Print, game: &[u8], payoffs2: &mut [i64]) {
     let mut set_players = [7u64; 4];
     let mut set_moves = [7u64; 4];
     let mut kinds = [7u64; 10];
@@ -265,6 +270,7 @@ fn try_buffers(game: &[u8], payoffs2: &mut [i64]) {
     let mut chance_moves = [7u64; 10];
     let mut payoffs1 = [7i64; 10];
     try_fields(
+        rt,
         game,
         &mut set_players,
         &mut set_moves,
@@ -280,22 +286,22 @@ fn try_buffers(game: &[u8], payoffs2: &mut [i64]) {
 }
 
 // All fields of one case: with room for 9 nodes and one more, and with a last buffer one entry too short for them.
-fn try_all_fields(name: &[u8]) {
+fn try_all_fields(rt: &(impl Files + Print), name: &[u8]) {
     let mut buffer = [0u8; ROOM];
-    let game = load(name, &mut buffer);
+    let game = load(rt, name, &mut buffer);
     let mut room = [7i64; 10];
     let mut short = [7i64; 8];
-    try_buffers(game, &mut room);
-    try_buffers(game, &mut short);
+    try_buffers(rt, game, &mut room);
+    try_buffers(rt, game, &mut short);
 }
 
-fn main() {
-    let mut list = io::buffer();
-    try_cases(load(b"cases", &mut list));
-    try_look_ups(b"00-study-game");
-    try_look_ups(b"00-chance-game");
-    try_look_ups(b"13-set-below-itself");
-    try_all_fields(b"00-study-game");
-    try_all_fields(b"00-no-sets");
-    try_all_fields(b"13-set-below-itself");
+fn main(rt: HostRuntime) {
+    let mut list = [0u8; NAMES];
+    try_cases(&rt, load(&rt, b"cases", &mut list));
+    try_look_ups(&rt, b"00-study-game");
+    try_look_ups(&rt, b"00-chance-game");
+    try_look_ups(&rt, b"13-set-below-itself");
+    try_all_fields(&rt, b"00-study-game");
+    try_all_fields(&rt, b"00-no-sets");
+    try_all_fields(&rt, b"13-set-below-itself");
 }

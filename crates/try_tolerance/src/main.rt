@@ -4,24 +4,25 @@
 ghost use Rattle.std.specs.Prelude.{◌+◌, ◌<◌, length};
 
 use entry::ToleranceAnswer;
+use std::rt::Files;
 use trials::lists::{line_at, name_of, next_line};
-use trials::{ROOM, load, say, say_number};
+use trials::{LIST, ROOM, load, say, say_number};
 
 // The answer of one call.
-fn say_answer(answer: ToleranceAnswer) {
+fn say_answer(rt: &impl Print, answer: ToleranceAnswer) {
     match answer {
-        ToleranceAnswer::Passes => say(b": yes"),
-        ToleranceAnswer::Fails => say(b": no"),
-        ToleranceAnswer::Refused(number) => say_number(b": refusal ", number),
+        ToleranceAnswer::Passes => say(rt, b": yes"),
+        ToleranceAnswer::Fails => say(rt, b": no"),
+        ToleranceAnswer::Refused(number) => say_number(rt, b": refusal ", number),
     }
 }
 
 // The line of one tolerance.
-fn try_tolerance(name: &[u8], game: &[u8], plan: &[u8], tolerance: u16) {
-    say(name);
-    say_number(b" at ", tolerance as u64);
-    say_answer(entry::tolerates(game, plan, tolerance));
-    say(b"\n");
+fn try_tolerance(rt: &impl Print, name: &[u8], game: &[u8], plan: &[u8], tolerance: u16) {
+    say(rt, name);
+    say_number(rt, b" at ", tolerance as u64);
+    say_answer(rt, entry::tolerates(game, plan, tolerance));
+    say(rt, b"\n");
 }
 
 // The number of two bytes.
@@ -37,35 +38,34 @@ fn number_at(bytes: &[u8], at: usize) -> u16
 }
 
 // A line for each of the tolerances.
-fn try_tolerances(name: &[u8], game: &[u8], plan: &[u8], tolerances: &[u8]) {
+fn try_tolerances(rt: &impl Print, name: &[u8], game: &[u8], plan: &[u8], tolerances: &[u8]) {
     let count = tolerances.len() / 2;
-    let mut i = 0;
-    while i < count {
-        try_tolerance(name, game, plan, number_at(tolerances, 2 * i));
-        i += 1;
+    for i in 0..count {
+        try_tolerance(rt, name, game, plan, number_at(tolerances, 2 * i));
     }
 }
 
 // One case by the paths of its three files.
-fn try_case(game_path: &[u8], plan_path: &[u8], tolerances_path: &[u8]) {
+fn try_case(rt: &(impl Files + Print), game_path: &[u8], plan_path: &[u8], tolerances_path: &[u8]) {
     let mut game = [0u8; ROOM];
     let mut plan = [0u8; ROOM];
     let mut tolerances = [0u8; ROOM];
-    let game_file = load(game_path, &mut game);
-    let plan_file = load(plan_path, &mut plan);
-    let numbers = load(tolerances_path, &mut tolerances);
-    try_tolerances(name_of(game_path), game_file, plan_file, numbers);
+    let game_file = load(rt, game_path, &mut game);
+    let plan_file = load(rt, plan_path, &mut plan);
+    let numbers = load(rt, tolerances_path, &mut tolerances);
+    try_tolerances(rt, name_of(game_path), game_file, plan_file, numbers);
 }
 
 // Each case of the list, whose lines are by turns the paths of a game, its plan and the tolerances.
-fn main() {
-    let mut room = io::large_buffer();
-    let list = load(b"cases", &mut room);
+fn main(rt: HostRuntime) {
+    let mut room = [0u8; LIST];
+    let list = load(&rt, b"cases", &mut room);
     let mut game = 0;
     while game < list.len() {
         let plan = next_line(list, game);
         let tolerances = next_line(list, plan);
         try_case(
+            &rt,
             line_at(list, game),
             line_at(list, plan),
             line_at(list, tolerances),

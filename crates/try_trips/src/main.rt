@@ -14,106 +14,107 @@ const TOO_LARGE: u64 = 1 << Header::COUNT_BITS;
 const HELD: u8 = 165;
 
 // The number of a refusal.
-fn say_refusal(number: u64) {
-    say_number(b": refusal ", number);
+fn say_refusal(rt: &impl Print, number: u64) {
+    say_number(rt, b": refusal ", number);
 }
 
 // The answer of what writes a file again.
-fn say_written(answer: WriteAnswer) {
+fn say_written(rt: &impl Print, answer: WriteAnswer) {
     match answer {
-        WriteAnswer::Written(size) => say_number(b": written ", size as u64),
-        WriteAnswer::Refused(number) => say_refusal(number),
+        WriteAnswer::Written(size) => say_number(rt, b": written ", size as u64),
+        WriteAnswer::Refused(number) => say_refusal(rt, number),
     }
 }
 
 // The answer of what reads weights back.
-fn say_weights(answer: WeightsAnswer) {
+fn say_weights(rt: &impl Print, answer: WeightsAnswer) {
     match answer {
         WeightsAnswer::Given { d1, d2, count } => {
-            say_number(b": given ", d1);
-            say_number(b" ", d2);
-            say_number(b" count ", count);
+            say_number(rt, b": given ", d1);
+            say_number(rt, b" ", d2);
+            say_number(rt, b" count ", count);
         }
-        WeightsAnswer::Refused(number) => say_refusal(number),
+        WeightsAnswer::Refused(number) => say_refusal(rt, number),
     }
 }
 
 // The answer of what reads a game's fields back.
-fn say_fields(answer: FieldsAnswer) {
+fn say_fields(rt: &impl Print, answer: FieldsAnswer) {
     match answer {
         FieldsAnswer::Given {
             nodes,
             sets,
             root_weight,
         } => {
-            say_number(b": given ", nodes);
-            say_number(b" ", sets);
-            say_number(b" ", root_weight);
+            say_number(rt, b": given ", nodes);
+            say_number(rt, b" ", sets);
+            say_number(rt, b" ", root_weight);
         }
-        FieldsAnswer::Refused(number) => say_refusal(number),
+        FieldsAnswer::Refused(number) => say_refusal(rt, number),
     }
 }
 
 // A plan written again, into one buffer.
-fn rewrite_plan(game: &[u8], plan: &[u8], out: &mut [u8]) {
-    say(b"plan");
-    say_written(plan_trips::rewrite_plan(game, plan, out));
-    say_buffer(out);
+fn rewrite_plan(rt: &impl Print, game: &[u8], plan: &[u8], out: &mut [u8]) {
+    say(rt, b"plan");
+    say_written(rt, plan_trips::rewrite_plan(game, plan, out));
+    say_buffer(rt, out);
 }
 
 // Into a buffer with room for one byte more than the study game's plans have, and into one that is a byte too short.
-fn try_plan(game: &[u8], plan: &[u8]) {
+fn try_plan(rt: &impl Print, game: &[u8], plan: &[u8]) {
     let mut out = [HELD; 14];
     let mut short = [HELD; 12];
-    rewrite_plan(game, plan, &mut out);
-    rewrite_plan(game, plan, &mut short);
+    rewrite_plan(rt, game, plan, &mut out);
+    rewrite_plan(rt, game, plan, &mut short);
 }
 
 // A game written again, into one buffer.
-fn rewrite_game(game: &[u8], out: &mut [u8]) {
-    say(b"game");
-    say_written(game_trips::rewrite_game(game, out));
-    say_buffer(out);
+fn rewrite_game(rt: &impl Print, game: &[u8], out: &mut [u8]) {
+    say(rt, b"game");
+    say_written(rt, game_trips::rewrite_game(game, out));
+    say_buffer(rt, out);
 }
 
 // Into a buffer with room for one byte more than the study game has, and into one that is a byte too short.
-fn try_game(game: &[u8]) {
+fn try_game(rt: &impl Print, game: &[u8]) {
     let mut out = [HELD; 81];
     let mut short = [HELD; 79];
-    rewrite_game(game, &mut out);
-    rewrite_game(game, &mut short);
+    rewrite_game(rt, game, &mut out);
+    rewrite_game(rt, game, &mut short);
 }
 
 // Weights written and read back, into one buffer.
-fn reread_plan(game: &[u8], d1: u64, d2: u64, weights: &[u64], out: &mut [u64]) {
-    say(b"weights");
-    say_weights(plan_trips::reread_plan(game, d1, d2, weights, out));
-    say_numbers(b" weights", out);
-    say(b"\n");
+fn reread_plan(rt: &impl Print, game: &[u8], d1: u64, d2: u64, weights: &[u64], out: &mut [u64]) {
+    say(rt, b"weights");
+    say_weights(rt, plan_trips::reread_plan(game, d1, d2, weights, out));
+    say_numbers(rt, b" weights", out);
+    say(rt, b"\n");
 }
 
 // Into a buffer with room for one weight more than the study game's plans have, and into one that is an entry too short.
-fn try_weights(game: &[u8], d1: u64, d2: u64, weights: &[u64]) {
+fn try_weights(rt: &impl Print, game: &[u8], d1: u64, d2: u64, weights: &[u64]) {
     let mut out = [7u64; 7];
     let mut short = [7u64; 5];
-    reread_plan(game, d1, d2, weights, &mut out);
-    reread_plan(game, d1, d2, weights, &mut short);
+    reread_plan(rt, game, d1, d2, weights, &mut out);
+    reread_plan(rt, game, d1, d2, weights, &mut short);
 }
 
 // The weights of plan M; with a D1 that does not fit them, with a D2 that does not fit its field, and with a game that is refused. Then more weights than any game has moves.
-fn try_weights_of(game: &[u8], plan: &[u8], refused: &[u8]) {
+fn try_weights_of(rt: &impl Print, game: &[u8], plan: &[u8], refused: &[u8]) {
     let mut weights = [0u64; 6];
     plans::plan_fields(game, plan, &mut weights);
-    try_weights(game, 3, 3, &weights);
-    try_weights(game, 4, 3, &weights);
-    try_weights(game, 3, TOO_LARGE, &weights);
-    try_weights(refused, 3, 3, &weights);
+    try_weights(rt, game, 3, 3, &weights);
+    try_weights(rt, game, 4, 3, &weights);
+    try_weights(rt, game, 3, TOO_LARGE, &weights);
+    try_weights(rt, refused, 3, 3, &weights);
     let ones = [1u64; 5001];
-    try_weights(game, 3, 3, &ones);
+    try_weights(rt, game, 3, 3, &ones);
 }
 
 // Fields of a game of 3 sets and 9 nodes written and read back. Buffers of 7s have room for one more of each; the last is given, and shown with two others.
 fn reread_game(
+    rt: &impl Print,
     root_weight: u64,
     set_players: &[u64],
     set_moves: &[u64],
@@ -136,38 +137,42 @@ fn reread_game(
     let mut node_sets_out = [7u64; 10];
     let mut chance_moves_out = [7u64; 10];
     let mut payoffs1_out = [7i64; 10];
-    say(b"fields");
-    say_fields(game_trips::reread_game(
-        root_weight,
-        set_players,
-        set_moves,
-        kinds,
-        parents,
-        moves,
-        weights,
-        node_sets,
-        chance_moves,
-        payoffs1,
-        payoffs2,
-        &mut set_players_out,
-        &mut set_moves_out,
-        &mut kinds_out,
-        &mut parents_out,
-        &mut moves_out,
-        &mut weights_out,
-        &mut node_sets_out,
-        &mut chance_moves_out,
-        &mut payoffs1_out,
-        payoffs2_out,
-    ));
-    say_numbers(b" set_players_lem", &set_players_out);
-    say_numbers(b" parents", &parents_out);
-    say_signed_numbers(b" payoffs2", payoffs2_out);
-    say(b"\n");
+    say(rt, b"fields");
+    say_fields(
+        rt,
+        game_trips::reread_game(
+            root_weight,
+            set_players,
+            set_moves,
+            kinds,
+            parents,
+            moves,
+            weights,
+            node_sets,
+            chance_moves,
+            payoffs1,
+            payoffs2,
+            &mut set_players_out,
+            &mut set_moves_out,
+            &mut kinds_out,
+            &mut parents_out,
+            &mut moves_out,
+            &mut weights_out,
+            &mut node_sets_out,
+            &mut chance_moves_out,
+            &mut payoffs1_out,
+            payoffs2_out,
+        ),
+    );
+    say_numbers(rt, b" set-players", &set_players_out);
+    say_numbers(rt, b" parents", &parents_out);
+    say_signed_numbers(rt, b" payoffs2", payoffs2_out);
+    say(rt, b"\n");
 }
 
 // With a last buffer that has room, and with one that is an entry too short.
 fn try_fields(
+    rt: &impl Print,
     root_weight: u64,
     set_players: &[u64],
     set_moves: &[u64],
@@ -183,6 +188,7 @@ fn try_fields(
     let mut out = [7i64; 10];
     let mut short = [7i64; 8];
     reread_game(
+        rt,
         root_weight,
         set_players,
         set_moves,
@@ -197,6 +203,7 @@ fn try_fields(
         &mut out,
     );
     reread_game(
+        rt,
         root_weight,
         set_players,
         set_moves,
@@ -213,7 +220,7 @@ fn try_fields(
 }
 
 // The fields of the study game, with this D0.
-fn try_fields_of(game: &[u8], root_weight: u64) {
+fn try_fields_of(rt: &impl Print, game: &[u8], root_weight: u64) {
     let mut set_players = [0u64; 3];
     let mut set_moves = [0u64; 3];
     let mut kinds = [0u64; 9];
@@ -238,6 +245,7 @@ fn try_fields_of(game: &[u8], root_weight: u64) {
         &mut payoffs2,
     );
     try_fields(
+        rt,
         root_weight,
         &set_players,
         &set_moves,
@@ -252,24 +260,24 @@ fn try_fields_of(game: &[u8], root_weight: u64) {
     );
 }
 
-fn main() {
+fn main(rt: HostRuntime) {
     let mut game_bytes = [0u8; ROOM];
     let mut m_bytes = [0u8; ROOM];
     let mut f_bytes = [0u8; ROOM];
     let mut refused_bytes = [0u8; ROOM];
-    let game = load(b"game", &mut game_bytes);
-    let m = load(b"m", &mut m_bytes);
-    let f = load(b"f", &mut f_bytes);
-    let refused = load(b"refused", &mut refused_bytes);
-    try_game(game);
-    try_game(refused);
-    try_plan(game, m);
-    try_plan(game, f);
-    try_plan(game, game);
-    try_plan(refused, m);
-    try_weights_of(game, m, refused);
+    let game = load(&rt, b"game", &mut game_bytes);
+    let m = load(&rt, b"m", &mut m_bytes);
+    let f = load(&rt, b"f", &mut f_bytes);
+    let refused = load(&rt, b"refused", &mut refused_bytes);
+    try_game(&rt, game);
+    try_game(&rt, refused);
+    try_plan(&rt, game, m);
+    try_plan(&rt, game, f);
+    try_plan(&rt, game, game);
+    try_plan(&rt, refused, m);
+    try_weights_of(&rt, game, m, refused);
     // 2 is not the root's weight, and the last does not fit its field.
-    try_fields_of(game, 1);
-    try_fields_of(game, 2);
-    try_fields_of(game, TOO_LARGE);
+    try_fields_of(&rt, game, 1);
+    try_fields_of(&rt, game, 2);
+    try_fields_of(&rt, game, TOO_LARGE);
 }

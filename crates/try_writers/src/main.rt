@@ -6,8 +6,9 @@ ghost use Rattle.std.specs.Prelude.{◌≤◌, ◌+◌, ◌^◌, ◌≡◌, leng
 
 use entry::WriteAnswer;
 use records::NodeRecord;
+use std::rt::Files;
 use trials::lists::{line_at, next_line};
-use trials::{ROOM, load, say, say_buffer, say_number};
+use trials::{NAMES, ROOM, load, say, say_buffer, say_number};
 
 // One more than a game has nodes or sets.
 const TOO_MANY: usize = NodeRecord::NODES + 1;
@@ -38,17 +39,17 @@ enum Kind {
 }
 
 // What the first bytes of a buffer hold.
-fn say_start(buffer: &[u8])
+fn say_start(rt: &impl Print, buffer: &[u8])
     requires { 8 ≤ length buffer.now }
 {
-    say_buffer(&buffer[..SHOWN]);
+    say_buffer(rt, &buffer[..SHOWN]);
 }
 
 // The answer of a writer.
-fn say_written(answer: WriteAnswer) {
+fn say_written(rt: &impl Print, answer: WriteAnswer) {
     match answer {
-        WriteAnswer::Written(size) => say_number(b": written ", size as u64),
-        WriteAnswer::Refused(number) => say_number(b": refusal ", number),
+        WriteAnswer::Written(size) => say_number(rt, b": written ", size as u64),
+        WriteAnswer::Refused(number) => say_number(rt, b": refusal ", number),
     }
 }
 
@@ -113,34 +114,40 @@ fn write_game(words: &[u64], payoffs1: &[i64], payoffs2: &[i64], out: &mut [u8])
 }
 
 // The answer to the game that the words give, and what the buffer holds afterwards.
-fn try_game(words: &[u64], out: &mut [u8])
+fn try_game(rt: &impl Print, words: &[u64], out: &mut [u8])
     requires { length words.now ≡ 172 }
 {
     let mut payoffs1 = [0i64; ENTRIES];
     let count1 = put_payoffs(list(words, 138), &mut payoffs1);
     let mut payoffs2 = [0i64; ENTRIES];
     let count2 = put_payoffs(list(words, 155), &mut payoffs2);
-    say_written(write_game(words, &payoffs1[..count1], &payoffs2[..count2], out));
-    say_buffer(out);
+    say_written(
+        rt,
+        write_game(words, &payoffs1[..count1], &payoffs2[..count2], out),
+    );
+    say_buffer(rt, out);
 }
 
 // The answer to the plan that the words give, and what the buffer holds afterwards.
-fn try_plan(words: &[u64], out: &mut [u8])
+fn try_plan(rt: &impl Print, words: &[u64], out: &mut [u8])
     requires { length words.now ≡ 172 }
 {
-    say_written(entry::write_plan(words[1], words[2], list(words, 3), out));
-    say_buffer(out);
+    say_written(
+        rt,
+        entry::write_plan(words[1], words[2], list(words, 3), out),
+    );
+    say_buffer(rt, out);
 }
 
 // The answer to what the words give, with a buffer cut to the length that the first gives.
-fn try_words(kind: Kind, words: &[u64])
+fn try_words(rt: &impl Print, kind: Kind, words: &[u64])
     requires { length words.now ≡ 172 }
 {
     let mut buffer = [HELD; MOST];
     let room = at_most(words[0], MOST);
     match kind {
-        Kind::Game => try_game(words, &mut buffer[..room]),
-        Kind::Plan => try_plan(words, &mut buffer[..room]),
+        Kind::Game => try_game(rt, words, &mut buffer[..room]),
+        Kind::Plan => try_plan(rt, words, &mut buffer[..room]),
     }
 }
 
@@ -148,36 +155,34 @@ fn try_words(kind: Kind, words: &[u64])
 fn read_words(file: &[u8], words: &mut [u64])
     requires { length words.old ≡ 172 }
 {
-    let mut i = 0;
-    while i < WORDS {
+    for i in 0..WORDS {
         words[i] = bits::read_field(file, 64 * i, 64);
-        i += 1;
     }
 }
 
 // The line of one case.
-fn try_case(kind: Kind, name: &[u8]) {
+fn try_case(rt: &(impl Files + Print), kind: Kind, name: &[u8]) {
     let mut bytes = [0u8; CASE_BYTES];
-    let file = load(name, &mut bytes);
+    let file = load(rt, name, &mut bytes);
     let mut words = [0u64; WORDS];
     read_words(file, &mut words);
-    say(name);
-    try_words(kind, &words);
+    say(rt, name);
+    try_words(rt, kind, &words);
 }
 
 // The line of each case that is named.
-fn try_cases(kind: Kind, names: &[u8]) {
+fn try_cases(rt: &(impl Files + Print), kind: Kind, names: &[u8]) {
     let mut start = 0;
     while start < names.len() {
-        try_case(kind, line_at(names, start));
+        try_case(rt, kind, line_at(names, start));
         start = next_line(names, start);
     }
 }
 
 // The cases that the file names.
-fn try_list(kind: Kind, name: &[u8]) {
-    let mut names = io::buffer();
-    try_cases(kind, load(name, &mut names));
+fn try_list(rt: &(impl Files + Print), kind: Kind, name: &[u8]) {
+    let mut names = [0u8; NAMES];
+    try_cases(rt, kind, load(rt, name, &mut names));
 }
 
 // Writes a game with D0 = 1 whose lists of sets are one list, and those of nodes another.
@@ -188,51 +193,51 @@ fn write_alike(sets: &[u64], nodes: &[u64], payoffs: &[i64], out: &mut [u8]) -> 
 }
 
 // The answer, and the first bytes of a buffer that has room for any file.
-fn try_alike(sets: &[u64], nodes: &[u64], payoffs: &[i64]) {
+fn try_alike(rt: &impl Print, sets: &[u64], nodes: &[u64], payoffs: &[i64]) {
     let mut buffer = [HELD; ROOM];
-    say_written(write_alike(sets, nodes, payoffs, &mut buffer));
-    say_start(&buffer);
+    say_written(rt, write_alike(sets, nodes, payoffs, &mut buffer));
+    say_start(rt, &buffer);
 }
 
 // The line of a game of so many sets and nodes, all their fields 0.
-fn try_long_game(sets: usize, nodes: usize)
+fn try_long_game(rt: &impl Print, sets: usize, nodes: usize)
     requires { (sets ≤ 2 ^ 12) × (nodes ≤ 2 ^ 12) }
 {
-    say_number(b"", sets as u64);
-    say_number(b" sets and ", nodes as u64);
-    say(b" nodes");
+    say_number(rt, b"", sets as u64);
+    say_number(rt, b" sets and ", nodes as u64);
+    say(rt, b" nodes");
     let of_sets = [0u64; TOO_MANY];
     let of_nodes = [0u64; TOO_MANY];
     let payoffs = [0i64; TOO_MANY];
-    try_alike(&of_sets[..sets], &of_nodes[..nodes], &payoffs[..nodes]);
+    try_alike(rt, &of_sets[..sets], &of_nodes[..nodes], &payoffs[..nodes]);
 }
 
 // The answer to a plan with D1 = D2 = 1, and the first bytes of its buffer.
-fn try_weights(weights: &[u64]) {
+fn try_weights(rt: &impl Print, weights: &[u64]) {
     let mut buffer = [HELD; ROOM];
-    say_written(entry::write_plan(1, 1, weights, &mut buffer));
-    say_start(&buffer);
+    say_written(rt, entry::write_plan(1, 1, weights, &mut buffer));
+    say_start(rt, &buffer);
 }
 
 // The line of a plan of so many weights, all of them 1.
-fn try_long_plan(count: usize)
+fn try_long_plan(rt: &impl Print, count: usize)
     requires { count ≤ 5001 }
 {
-    say_number(b"", count as u64);
-    say(b" weights");
+    say_number(rt, b"", count as u64);
+    say(rt, b" weights");
     let ones = [1u64; 5001];
-    try_weights(&ones[..count]);
+    try_weights(rt, &ones[..count]);
 }
 
-fn main() {
-    try_list(Kind::Game, b"games");
-    try_list(Kind::Plan, b"plans");
-    try_long_game(NodeRecord::NODES, 0);
-    try_long_game(TOO_MANY, 0);
-    try_long_game(0, NodeRecord::NODES);
-    try_long_game(0, TOO_MANY);
-    try_long_game(NodeRecord::NODES, NodeRecord::NODES);
-    try_long_game(TOO_MANY, TOO_MANY);
-    try_long_plan(NodeRecord::NODES);
-    try_long_plan(5001);
+fn main(rt: HostRuntime) {
+    try_list(&rt, Kind::Game, b"games");
+    try_list(&rt, Kind::Plan, b"plans");
+    try_long_game(&rt, NodeRecord::NODES, 0);
+    try_long_game(&rt, TOO_MANY, 0);
+    try_long_game(&rt, 0, NodeRecord::NODES);
+    try_long_game(&rt, 0, TOO_MANY);
+    try_long_game(&rt, NodeRecord::NODES, NodeRecord::NODES);
+    try_long_game(&rt, TOO_MANY, TOO_MANY);
+    try_long_plan(&rt, NodeRecord::NODES);
+    try_long_plan(&rt, 5001);
 }
