@@ -6,11 +6,11 @@
  * NULL, not even where the length is 0. Everything that a call writes to is lent to it alone: no
  * two of a call's pointers may reach the same memory unless both are const.
  *
- * Each call returns the number of the refusal, or 0 for none: 1 to 13 send the game file back,
- * 14 to 16 the plan file, 19 to 21 the play sheet, 17 is a number or a table that a writer cannot
- * take, and 18 a result buffer that is too short. On a refusal everything lent keeps what it held.
- * Otherwise the results stand at the front of their buffers, and what lies past them keeps what it
- * held.
+ * Each call returns the number of the refusal, or 0 for none: 1 to 13 and 22 send the game file
+ * back, 14 to 16 the plan file, 19 to 21 the play sheet, 17 is a number or a table that a writer
+ * cannot take, and 18 a result buffer that is too short. On a refusal everything lent keeps what it
+ * held. Otherwise the results stand at the front of their buffers, and what lies past them keeps
+ * what it held.
  *
  * Nothing is kept between calls, so calls may be made from several threads. A call works on its
  * stack: 2 MiB are enough as measured; nothing proves it.
@@ -173,6 +173,44 @@ uint64_t desk_write_game(
     const int64_t *second_payoffs, size_t second_payoffs_len,
     uint8_t *out, size_t out_len,
     uint64_t *size);
+
+/*
+ * Writes a game file of edition 2, from D0, all fields as `desk_game_fields` gives them and the
+ * numbers that `desk_own_sequences` gives, and gives its length. It does not compare the numbers
+ * with the tree.
+ */
+uint64_t desk_write_game_2(
+    uint64_t root_weight,
+    const uint64_t *set_players, size_t set_players_len,
+    const uint64_t *set_moves, size_t set_moves_len,
+    const uint64_t *set_sequences, size_t set_sequences_len,
+    const uint64_t *kinds, size_t kinds_len,
+    const uint64_t *parents, size_t parents_len,
+    const uint64_t *moves, size_t moves_len,
+    const uint64_t *weights, size_t weights_len,
+    const uint64_t *node_sets, size_t node_sets_len,
+    const uint64_t *chance_moves, size_t chance_moves_len,
+    const int64_t *first_payoffs, size_t first_payoffs_len,
+    const int64_t *second_payoffs, size_t second_payoffs_len,
+    uint8_t *out, size_t out_len,
+    uint64_t *size);
+
+/*
+ * Turns a game file into the other edition, and gives its length: 5 + 4H + 8N bytes of a file of
+ * edition 1, 5 + H + 8N of one of edition 2.
+ */
+uint64_t desk_other_edition(
+    const uint8_t *game, size_t game_len,
+    uint8_t *out, size_t out_len,
+    uint64_t *size);
+
+/*
+ * The number of the own sequence leading to each set, among the sequences of the set's player, for
+ * files of either edition: one entry a set.
+ */
+uint64_t desk_own_sequences(
+    const uint8_t *game, size_t game_len,
+    uint64_t *numbers, size_t numbers_len);
 
 #ifdef __cplusplus
 }

@@ -5,7 +5,7 @@
 #include <stdio.h>
 
 /* One byte more than the longest legal file, so that a longer one is refused and not cut. */
-#define ROOM 36861
+#define ROOM 49146
 
 /* As many entries as any strategy has, and more. */
 #define MOVES 4095

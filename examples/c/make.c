@@ -11,7 +11,7 @@
 #define NODES 9
 #define WEIGHTS 6
 
-/* The length of the longest legal file. */
+/* The length of the longest game file of edition 1; no plan file is longer. */
 #define ROOM 36860
 
 /* Set 0 is L or R, set 1 player 2's l or r, and set 2 player 1's S or T. */

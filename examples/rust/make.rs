@@ -8,7 +8,7 @@ use std::{fs, process};
 #[path = "../../native/desk/src/exports.rs"]
 mod exports;
 
-/// The length of the longest legal file.
+/// The length of the longest game file of edition 1; no plan file is longer.
 const ROOM: usize = 36_860;
 
 /// By set, player and move count: L or R, player 2's l or r, and S or T.

@@ -53,7 +53,7 @@ pub fn room_and(size: usize, room: usize, later: bool) -> bool
     if size <= room { later } else { false }
 }
 
-// The answer of what puts bytes into a lent buffer: how many, or the refusal: 17 or 18 of a writer, 1 to 16 or 18 of the report, 18 of a refusal's line.
+// The answer of what puts bytes into a lent buffer: how many, or the refusal: 17 or 18 of a writer, 1 to 16, 22 or 18 of the report, 18 of a refusal's line.
 #[derive(Drop)]
 pub enum WriteAnswer {
     Written(usize),

@@ -1,21 +1,22 @@
 // All fields of a game file, one list a field.
 ghost use Rattle.std.specs.Prelude.{◌≡◌, ◌≤◌, ◌<◌, length, set};
 ghost use Rattle.algebra.specs.Arrays.{over};
+ghost use Rattle.model.specs.Bits.{field};
 ghost use Rattle.model.specs.Game.{game_of, one, two};
 ghost use Rattle.model.specs.Writing.{payoff_field, player_field, set_field, moves_field, field_lists};
-ghost use Rattle.records.specs.Records.{Framed};
+ghost use Rattle.records.specs.Records.{header_of, Framed};
 ghost use Rattle.columns.specs.Columns.{FieldsFit, filled};
 
 use records::{Header, NodeRecord, Payload, SetEntry};
 
 // The player and the move count of each set, in one pass.
-fn set_columns(bytes: &[u8], sets: usize, players: &mut [u64], moves: &mut [u64])
-    requires { (sets ≡ (game_of bytes.now).sets) × (sets ≤ length players.old) × (sets ≤ length moves.old) }
+fn set_columns(bytes: &[u8], edition: u64, sets: usize, players: &mut [u64], moves: &mut [u64])
+    requires { (edition ≡ field bytes.now 0 4) × (sets ≡ (game_of bytes.now).sets) × (sets ≤ length players.old) × (sets ≤ length moves.old) }
     ensures { (players.new ≡ over (player_field (game_of bytes.now)) (game_of bytes.now).sets players.old) × (moves.new ≡ over (game_of bytes.now).set_moves (game_of bytes.now).sets moves.old) }
 {
     let mut h = 0;
     while h < sets {
-        let entry = SetEntry::read(bytes, h);
+        let entry = SetEntry::read(bytes, edition, h);
         players[h] = entry.player;
         moves[h] = entry.moves as u64;
         h += 1;
@@ -107,10 +108,10 @@ pub fn fill_all(
     payoffs1: &mut [i64],
     payoffs2: &mut [i64],
 )
-    requires { Framed bytes.now header.records header.nodes × (header.sets ≡ (game_of bytes.now).sets) × FieldsFit header.sets header.nodes (field_lists set_players.old set_moves.old kinds.old parents.old moves.old weights.old node_sets.old chance_moves.old payoffs1.old payoffs2.old) }
+    requires { (header ≡ header_of bytes.now) × FieldsFit header.sets header.nodes (field_lists set_players.old set_moves.old kinds.old parents.old moves.old weights.old node_sets.old chance_moves.old payoffs1.old payoffs2.old) }
     ensures { field_lists set_players.new set_moves.new kinds.new parents.new moves.new weights.new node_sets.new chance_moves.new payoffs1.new payoffs2.new ≡ filled (game_of bytes.now) (field_lists set_players.old set_moves.old kinds.old parents.old moves.old weights.old node_sets.old chance_moves.old payoffs1.old payoffs2.old) }
 {
-    set_columns(bytes, header.sets, set_players, set_moves);
+    set_columns(bytes, header.edition, header.sets, set_players, set_moves);
     node_columns(
         bytes,
         header.records,

@@ -1,16 +1,23 @@
--- Set entries put one after the other.
+-- Set entries put one after the other, and check 5.
 use Prim.Native.Nat.{ℕ, zero, suc, ◌+◌, ◌≤◌, ◌<◌}
-use mathlib.Core.Path.{◌≡◌, refl}
+use mathlib.Core.Path.{◌≡◌, refl, ap, ◌∙◌}
+use mathlib.Core.Bool.{Bool, true, false, ◌&&◌}
 use mathlib.Core.List.{List}
 use native.Mathlib.Omega.{arith}
 use Rattle.model.specs.Game.{Game, game_of}
 use Rattle.model.specs.Writing.{player_field}
+use Rattle.model.specs.GameChecks.{set_moves_in_range, set_zeros_zero}
+use Rattle.checks.specs.declared.Checked.{Checked}
+use Rattle.checks.specs.declared.Checked.TheVariants.{Fine, Broken}
+use Rattle.checks.specs.Checked.{checked_of}
+use Rattle.checks.proofs.Chains.{fine_holds, broken_fails}
 use Rattle.records.specs.declared.game_file.SetEntry.{SetEntry}
 use Rattle.records.specs.Records.{SetRead}
 use Rattle.records.proofs.Records.{set_player_lem}
 use Rattle.loaded.specs.Sections.{section_room, player_section}
 use Rattle.loaded.specs.Loaded.{SetsDecoded}
 use Rattle.decoding.specs.Puts.{entry_put}
+use Rattle.decoding.specs.Decoding.{EntriesLoaded, SetsLoaded}
 use Rattle.loaded.proofs.Rows.{rows_held}
 use Rattle.decoding.proofs.Filled.{Filled, filled_put, filled_row}
 
@@ -36,3 +43,27 @@ sets_decoded F e few = record {
   players = rw e at (rows_held 0 F.rows (omega arith) few);
   moves = rw e at (rows_held 1 F.rows (omega arith) few);
 }
+
+-- The two halves of check 5, where the entries are put.
+module _ (bytes : List ℕ) {x : Checked} {before after : List ℕ} (E : EntriesLoaded (game_of bytes) x before after) where
+  -- a move count is out of range
+  pub moves_broken : {n : ℕ} → x ≡ Broken n → SetsLoaded bytes x before after
+  moves_broken f = record {
+    answer = E.answer ∙ ap (checked_of 5) (no_and (set_zeros_zero bytes) (broken_fails 5 (set_moves_in_range (game_of bytes)) E.answer f).0);
+    apart = E.apart;
+    decoded = E.decoded;
+  }
+    where
+      no_and : {a : Bool} (b : Bool) → a ≡ false → a ≡ (a && b)
+      no_and b e = rw e
+
+  -- none is, and the zero bits decide
+  pub zeros_after : {r : Checked} → x ≡ Fine → r ≡ checked_of 5 (set_zeros_zero bytes) → SetsLoaded bytes r before after
+  zeros_after f z = record {
+    answer = z ∙ ap (checked_of 5) (yes_and (set_moves_in_range (game_of bytes)) (fine_holds 5 (set_moves_in_range (game_of bytes)) E.answer f));
+    apart = E.apart;
+    decoded = E.decoded;
+  }
+    where
+      yes_and : (a : Bool) {b : Bool} → a ≡ true → b ≡ (a && b)
+      yes_and a e = rw e

@@ -1,12 +1,16 @@
 // The set entries and the node records of a game file, each decoded once into the sections of a loaded game. Checks 5 and 6 are made in
 // the same passes.
-ghost use Rattle.std.specs.Prelude.{◌≡◌, ◌≤◌, ◌<◌, length};
-ghost use Rattle.model.specs.Game.{game_of};
+ghost use Rattle.std.specs.Prelude.{◌≡◌, ◌≤◌, ◌<◌, eqb, length};
+ghost use Rattle.algebra.specs.Bounded.{all_to};
+ghost use Rattle.model.specs.Bits.{field};
+ghost use Rattle.model.specs.Game.{game_of, set_zeros};
+ghost use Rattle.model.specs.GameChecks.{set_zeros_zero};
+ghost use Rattle.checks.specs.Checked.{checked_of};
 ghost use Rattle.records.specs.Records.{header_of};
 ghost use Rattle.loaded.specs.Sections.{section_room, numbers_room, payoffs_room};
 ghost use Rattle.decoding.specs.Puts.{entry_put, node_put, payload_of_kind, payoffs_put, leaf_put, next_place};
 ghost use Rattle.decoding.specs.Tests.{well_formed_of};
-ghost use Rattle.decoding.specs.Decoding.{SetsLoaded, NodesLoaded};
+ghost use Rattle.decoding.specs.Decoding.{EntriesLoaded, SetsLoaded, NodesLoaded};
 
 use checks::Checked;
 use loaded::Section;
@@ -30,14 +34,14 @@ fn put_entry(entry: SetEntry, h: usize, numbers: &mut [u16])
     loaded::put(numbers, Section::MOVES, h, moves);
 }
 
-// Check 5, and the players and move counts of the sets.
-pub fn load_sets(bytes: &[u8], sets: usize, numbers: &mut [u16]) -> Checked
-    requires { (sets ≡ (game_of bytes.now).sets) × (numbers_room ≤ length numbers.old) }
-    ensures { SetsLoaded (game_of bytes.now) result numbers.old numbers.new }
+// Check 5 of the move counts, and the players and move counts of the sets.
+fn load_entries(bytes: &[u8], edition: u64, sets: usize, numbers: &mut [u16]) -> Checked
+    requires { (edition ≡ field bytes.now 0 4) × (sets ≡ (game_of bytes.now).sets) × (numbers_room ≤ length numbers.old) }
+    ensures { EntriesLoaded (game_of bytes.now) result numbers.old numbers.new }
 {
     let mut h = 0;
     while h < sets {
-        let entry = SetEntry::read(bytes, h);
+        let entry = SetEntry::read(bytes, edition, h);
         if records::is_move_count(entry.moves) {
             put_entry(entry, h, numbers);
             h += 1;
@@ -46,6 +50,47 @@ pub fn load_sets(bytes: &[u8], sets: usize, numbers: &mut [u16]) -> Checked
         }
     }
     Checked::Fine
+}
+
+// Whether the zero bits of every set entry of an edition 2 file are zero.
+fn all_zeros(bytes: &[u8], edition: u64, sets: usize) -> Checked
+    requires { (edition ≡ field bytes.now 0 4) × (sets ≡ (game_of bytes.now).sets) }
+    ensures { result ≡ checked_of 5 (all_to (game_of bytes.now).sets (λ h. eqb (set_zeros bytes.now h) 0)) }
+{
+    let mut h = 0;
+    while h < sets {
+        if SetEntry::zeros(bytes, edition, h) == 0 {
+            h += 1;
+        } else {
+            return Checked::Broken(5);
+        }
+    }
+    Checked::Fine
+}
+
+// Check 5 of the zero bits, which edition 1 lacks.
+fn zeros_zero(bytes: &[u8], edition: u64, sets: usize) -> Checked
+    requires { (edition ≡ field bytes.now 0 4) × (sets ≡ (game_of bytes.now).sets) }
+    ensures { result ≡ checked_of 5 (set_zeros_zero bytes.now) }
+{
+    if edition == Header::SECOND {
+        return all_zeros(bytes, edition, sets);
+    }
+    Checked::Fine
+}
+
+// Check 5, and the players and move counts of the sets.
+pub fn load_sets(bytes: &[u8], header: Header, numbers: &mut [u16]) -> Checked
+    requires { (header ≡ header_of bytes.now) × (numbers_room ≤ length numbers.old) }
+    ensures { SetsLoaded bytes.now result numbers.old numbers.new }
+{
+    let edition = header.edition;
+    let sets = header.sets;
+    let entries = load_entries(bytes, edition, sets, numbers);
+    let Checked::Fine = entries else {
+        return entries;
+    };
+    zeros_zero(bytes, edition, sets)
 }
 
 // Whether a record's kind is 0 to 2 and its padding is zero.

@@ -5,6 +5,7 @@
 // The comment above an export is its comment in include/desk.h too, which native/derived_files writes.
 ghost use Rattle.std.specs.Prelude.{◌≡◌};
 ghost use Rattle.model.specs.Writing.{game_fields_of, field_lists};
+ghost use Rattle.model.specs.Demand2.{GivesOtherIn};
 ghost use Rattle.model.specs.Exported.{none, same, exported, leaves};
 ghost use Rattle.model.specs.Calls.CheckGame.{counts, check_game_of};
 ghost use Rattle.model.specs.Calls.GameFields as Fields;
@@ -20,7 +21,9 @@ ghost use Rattle.model.specs.Plan.{weight_width, largest_denominator};
 ghost use Rattle.model.specs.PlanChecks.{files};
 ghost use Rattle.model.specs.Calls.PlanFromSheet.{sheet_files, MakesIn, plan_from_sheet_of};
 ghost use Rattle.model.specs.Calls.SheetFromPlan.{ReturnsIn, sheet_from_plan_of};
-ghost use Rattle.model.specs.Calls.WriteGame.{write_game_of};
+ghost use Rattle.model.specs.Calls.WriteGame.{write_game_of, write_game2};
+ghost use Rattle.model.specs.Calls.OtherEdition.{other_edition_of};
+ghost use Rattle.model.specs.Calls.OwnSequences.{own_sequences_of};
 ghost use Rattle.model.specs.Calls.WritePlan.{write_plan_of};
 ghost use Rattle.model.specs.Demand3.{Demand3MetIn};
 
@@ -244,4 +247,60 @@ pub extern "C" fn desk_write_game(
         out,
         size,
     )
+}
+
+// Writes a game file of edition 2, from D0, all fields as `desk_game_fields` gives them and the numbers that `desk_own_sequences` gives, and gives its length.
+// It does not compare the numbers with the tree.
+#[unsafe(no_mangle)]
+pub extern "C" fn desk_write_game_2(
+    root_weight: u64,
+    set_players: &[u64],
+    set_moves: &[u64],
+    set_sequences: &[u64],
+    kinds: &[u64],
+    parents: &[u64],
+    moves: &[u64],
+    weights: &[u64],
+    node_sets: &[u64],
+    chance_moves: &[u64],
+    first_payoffs: &[i64],
+    second_payoffs: &[i64],
+    out: &mut [u8],
+    size: &mut u64,
+) -> u64
+    ensures { leaves result size.new (out.new, tt) ≡ exported same size.old (write_game2 (game_fields_of root_weight set_players.now set_moves.now kinds.now parents.now moves.now weights.now node_sets.now chance_moves.now first_payoffs.now second_payoffs.now) set_sequences.now out.old) }
+{
+    exported_editions::write_game_2(
+        root_weight,
+        set_players,
+        set_moves,
+        set_sequences,
+        kinds,
+        parents,
+        moves,
+        weights,
+        node_sets,
+        chance_moves,
+        first_payoffs,
+        second_payoffs,
+        out,
+        size,
+    )
+}
+
+// Turns a game file into the other edition, and gives its length: 5 + 4H + 8N bytes of a file of edition 1, 5 + H + 8N of one of edition 2.
+#[unsafe(no_mangle)]
+pub extern "C" fn desk_other_edition(game: &[u8], out: &mut [u8], size: &mut u64) -> u64
+    ensures tt_after { leaves result size.new (out.new, tt) ≡ exported same size.old (other_edition_of game.now out.old) }
+    ensures gives_other_in { GivesOtherIn game.now out.old (leaves result size.new (out.new, tt)) }
+{
+    exported_editions::other_edition(game, out, size)
+}
+
+// The number of the own sequence leading to each set, among the sequences of the set's player, for files of either edition: one entry a set.
+#[unsafe(no_mangle)]
+pub extern "C" fn desk_own_sequences(game: &[u8], numbers: &mut [u64]) -> u64
+    ensures { leaves result tt (numbers.new, tt) ≡ exported none tt (own_sequences_of game.now numbers.old) }
+{
+    exported_editions::own_sequences(game, numbers)
 }

@@ -8,7 +8,7 @@ use form::Values;
 use pair::{PairAnswer, PairHeader};
 use records::NodeRecord;
 
-// What was read and evaluated of a pair; a refusal is 1 to 16.
+// What was read and evaluated of a pair; a refusal is 1 to 16 or 22.
 #[derive(Drop)]
 pub enum PairEvaluated {
     Evaluated { pair: PairHeader, values: Values },
@@ -25,7 +25,7 @@ pub fn refusal(answer: PairEvaluated) -> u64
     }
 }
 
-// Checks 1 to 16, and of a pair that fits the values; `numbers` and `payoffs` then have the loaded game,
+// Checks 1 to 16 and 22, and of a pair that fits the values; `numbers` and `payoffs` then have the loaded game,
 // `moves1` and `moves2` by set the best moves of each player.
 pub fn evaluate(
     game: &[u8],

@@ -9,7 +9,7 @@ ghost use Rattle.fields.specs.Answers.{fields_answered};
 
 use checks::Checked;
 
-// N, H and D0 of a game whose fields stand in the lent buffers; a refusal is 1 to 13, or 18.
+// N, H and D0 of a game whose fields stand in the lent buffers; a refusal is 1 to 13, 22 or 18.
 #[derive(Drop)]
 pub enum FieldsAnswer {
     Given {

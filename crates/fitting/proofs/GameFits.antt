@@ -7,9 +7,9 @@ use lib.ListN.{length}
 use Rattle.algebra.specs.Arrays.{item}
 use Rattle.algebra.specs.Bounded.{all_to}
 use Rattle.algebra.proofs.Tests.{true→T}
-use Rattle.model.specs.Writing.{GameFields, set_count, node_count, side_by_side, numbers_fit, game_fields_fit}
+use Rattle.model.specs.Writing.{GameFields, FileFields, set_count, node_count, side_by_side, numbers_fit, game_fields_fit, file_fields_fit}
 use Rattle.model.proofs.Decisions.{eqb_iff, and_iff}
-use Rattle.model.proofs.FieldRules.{zero_in_range, Lacks, FieldRules, game_fields_iff}
+use Rattle.model.proofs.FieldRules.{zero_in_range, Lacks, FieldRules, FileRules, game_fields_iff, file_fields_iff}
 use Rattle.fitting.specs.GameLists.{set_lists, node_lists, Beside, SetsFit, NodesFit}
 use Rattle.fitting.proofs.EachFits.{decides_same}
 use Rattle.fitting.proofs.NodeKinds.{kind_fits_at}
@@ -154,3 +154,7 @@ module _ (t : GameFields) where
     payoff1 = f.payoffs1.1;
     payoff2 = f.payoffs2.1;
   }
+
+-- and with the own sequence numbers
+pub file_fitting : (t : FileFields) → file_fields_fit t ≡ true → FileRules t
+file_fitting t e = (file_fields_iff t).holds (true→T (file_fields_fit t) e)

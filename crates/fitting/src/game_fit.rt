@@ -1,8 +1,9 @@
-// Refusal 17 of the game writer: whether its lists are side by side, its numbers fit, and no node is given what its kind lacks.
+// Refusal 17 of the game writers: whether its lists are side by side, its numbers fit, and no node is given what its kind lacks.
 ghost use Rattle.std.specs.Prelude.{◌≡◌, ◌&&◌, ◌^◌, ◌<◌, [], ◌∷◌, eqb, ltb, length};
 ghost use Rattle.algebra.specs.Arrays.{item};
 ghost use Rattle.algebra.specs.Bounded.{all_to};
-ghost use Rattle.model.specs.Writing.{all_fit, all_fit_signed_of, is_zero, kind_fits_of, side_by_side, numbers_fit, game_fields_fit, game_fields_of};
+ghost use Rattle.model.specs.Game.{edition_of};
+ghost use Rattle.model.specs.Writing.{all_fit, all_fit_signed_of, is_zero, kind_fits_of, side_by_side, numbers_fit, game_fields_fit, sequences_fit, game_fields_of};
 ghost use Rattle.fitting.specs.GameLists.{set_lists, node_lists, kind_lists, Beside};
 
 use records::{Header, NodeRecord, Payload, SetEntry};
@@ -203,6 +204,17 @@ fn nodes_fit(
         );
     }
     false
+}
+
+// Whether `ok` holds and the own sequence numbers fit: edition 2 has one of 12 bits beside each set, edition 1 takes none.
+pub fn sequences_too(ok: bool, edition: u64, sets: usize, sequences: &[u64]) -> bool
+    ensures { result ≡ (ok && sequences_fit (edition_of edition) sets sequences.now) }
+{
+    if edition == Header::SECOND {
+        let ok = same_too(ok, sequences.len(), sets);
+        return fit_too(ok, sequences, SetEntry::SEQUENCE_BITS);
+    }
+    ok
 }
 
 // Whether all fields fit.

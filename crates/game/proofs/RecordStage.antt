@@ -6,8 +6,9 @@ use mathlib.Core.List.{List}
 use native.Mathlib.Omega.{arith}
 use lib.IntN.{ℤ}
 use lib.ListN.{length}
+use mir.Facts.{and_yes}
 use Rattle.model.specs.Game.{game_of}
-use Rattle.model.specs.GameChecks.{records_well_formed}
+use Rattle.model.specs.GameChecks.{set_moves_in_range, set_zeros_zero, records_well_formed}
 use Rattle.model.specs.Rows.{refusal}
 use Rattle.model.specs.Checks.{record_rows}
 use Rattle.model.proofs.Rows.{none}
@@ -25,7 +26,7 @@ use Rattle.decoding.specs.Decoding.{SetsLoaded, NodesLoaded, nodes_answer}
 use Rattle.game.specs.Stages.{record_part, leaves_by, RecordsLoaded}
 use Rattle.game.proofs.Refusals.{refuses}
 
-module _ (bytes : List ℕ) {r : Checked} {before middle : List ℕ} (S : SetsLoaded (game_of bytes) r before middle) where
+module _ (bytes : List ℕ) {r : Checked} {before middle : List ℕ} (S : SetsLoaded bytes r before middle) where
   -- 5 is broken
   sets_refuse : {n m : ℕ} → r ≡ checked.Broken n → m ≡ number_of r → Refuses record_part bytes m
   unfolding record_part record_rows
@@ -51,7 +52,7 @@ module _ (bytes : List ℕ) {r : Checked} {before middle : List ℕ} (S : SetsLo
           few_nodes = (game_limits bytes).nodes;
           few_sets = (game_limits bytes).sets;
           room = omega (arith, S.apart.long, N.apart.long);
-          sets_decoded = sets_apart (S.decoded t.0) N.apart (omega arith) (game_limits bytes).sets;
+          sets_decoded = sets_apart (S.decoded (and_yes (set_moves_in_range (game_of bytes)) (set_zeros_zero bytes) t.0).0) N.apart (omega arith) (game_limits bytes).sets;
           nodes_decoded = N.decoded t.1.0;
         };
     by_leaf = λ e. N.by_leaf ((none record_part bytes tt).0 e).1.0;

@@ -36,7 +36,11 @@ tree_part = drop 2 record_rows ++ take 3 tree_rows
 
 -- 12 and 13: the sets
 unfoldable pub set_part : Rows (List ℕ)
-set_part = drop 3 tree_rows
+set_part = take 2 (drop 3 tree_rows)
+
+-- 22: the written sequences
+unfoldable pub written_part : Rows (List ℕ)
+written_part = drop 5 tree_rows
 
 -- how many leaves there are, by a refusal's number
 abbrev pub leaves_by : ℕ → (leaves : ℕ) → NodesAnswer
@@ -80,7 +84,7 @@ pub record SequencesLoaded (bytes : List ℕ) (r : LoadAnswer) (numbers : List �
   pub answer : r ≡ load_answer (refusal set_part bytes) bytes
   pub sequences : refusal set_part bytes ≡ 0 → SequencesIn (game_of bytes) numbers
 
--- After 1 to 13.
+-- After 1 to 13, and 22.
 pub record FileChecked (bytes : List ℕ) (r : LoadAnswer) (numbers : List ℕ) (payoffs : List ℤ) : Type 0 where
   pub answer : r ≡ load_answer (game_refusal bytes) bytes
   pub sequences : game_refusal bytes ≡ 0 → SequencesIn (game_of bytes) numbers

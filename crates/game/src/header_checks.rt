@@ -22,7 +22,10 @@ fn has_edition(bytes: &[u8]) -> Checked
     ensures { result ≡ checked_of 2 (has_edition_of bytes.now) }
 {
     let header = Header::read(bytes);
-    checks::check(2, header.edition == Header::EDITION)
+    if header.edition == Header::FIRST {
+        return Checked::Fine;
+    }
+    checks::check(2, header.edition == Header::SECOND)
 }
 
 // Check 3.

@@ -29,7 +29,7 @@ pub fn load_records(
     requires { (header ≡ header_of bytes.now) × (numbers_room ≤ length numbers.old) × (payoffs_room ≤ length payoffs.old) }
     ensures { RecordsLoaded bytes.now result numbers.new payoffs.new }
 {
-    let c5 = decoding::load_sets(bytes, header.sets, numbers);
+    let c5 = decoding::load_sets(bytes, header, numbers);
     let Checked::Fine = c5 else {
         return NodesAnswer::Broken(checks::number(c5));
     };

@@ -1,175 +1,99 @@
--- The round trips of a game, on the calls.
-use Prim.Native.Nat.{ℕ, ◌≤◌}
+-- Fields of a game written and read back, on the calls.
+use Prim.Native.Nat.{ℕ, ◌≤◌, ◌<◌}
 use mathlib.Core.Path.{◌≡◌, sym, ap, ◌∙◌}
 use mathlib.Core.Bool.{true}
 use mathlib.Core.List.{List, [], ◌∷◌}
 use native.Mathlib.Omega.{arith}
-use lib.Dec.{T}
-use lib.IntN.{ℤ}
 use lib.ListN.{length, take}
 use borrow.Author.Tests.{le-leb}
-use Rattle.algebra.proofs.Tests.{cond_yes}
 use Rattle.algebra.proofs.Lists.{length_list_to}
-use Rattle.model.specs.Limits.{count_limit}
-use Rattle.model.specs.Game.{game_of, one, two}
-use Rattle.model.specs.Writing.{GameFields, game_fields_of, set_count, node_count, player_field, set_field, moves_field, payoff_field, fields_of, game_bytes, game_fields_fit, field_lists}
-use Rattle.model.specs.Demand2.{IsBytes}
+use Rattle.model.specs.Game.{Edition, edition1, edition2, length_in, game_of}
+use Rattle.model.specs.Writing.{GameFields, FileFields, fields2, set_count, node_count, player_field, fields_of, game_bytes}
 use Rattle.model.specs.Rows.{of, refusal}
 use Rattle.model.specs.Checks.{game_rows}
-use Rattle.model.specs.Call.{given, refused, Buffers, lengths, long_enough, Outcome, outcome}
+use Rattle.model.specs.Call.{refused, Buffers, long_enough, outcome, run}
 use Rattle.model.specs.Exported.{refusal_of}
 use Rattle.model.specs.Calls.CheckGame as CheckGame
-use Rattle.model.specs.Calls.CheckGame.{Counts}
 use Rattle.model.specs.Calls.GameFields as GameFields
 use Rattle.model.specs.Calls.GameFields.{shape, lists}
 use Rattle.model.specs.Calls.WriteGame as WriteGame
-use Rattle.model.specs.Calls.RewriteGame as RewriteGame
+use Rattle.model.specs.Calls.OwnSequences as OwnSequences
+use Rattle.model.specs.Calls.OwnSequences.{own_sequences_of}
 use Rattle.model.specs.Calls.RereadGame as RereadGame
-use Rattle.model.proofs.Budget.{game_limits}
-use Rattle.model.proofs.GameTrips.{length_game, game_file_trip, game_fields_trip}
-use Rattle.model.proofs.Rules.{fields_fit_iff}
+use Rattle.model.specs.Calls.RereadSequences as RereadSequences
+use Rattle.model.specs.Calls.RereadSequences.{reread_sequences_of}
+use Rattle.model.proofs.GameTrips.{length_game, set_count_lem, game_fields_trip, sequences_trip}
+use Rattle.model.proofs.Rules.{file_fields_fit_iff}
 use Rattle.model.proofs.Rows.{taken_iff, refusal_of_lem}
 use Rattle.model.proofs.Checks.{game_named, game_decided}
 use Rattle.model.proofs.Calls.WriteGame.{fit_decided}
 use Rattle.model.proofs.Calls.RereadGame.{reread_decided}
 use Rattle.checks.proofs.Chains.{Refuses, begin, passes_all, stops_in, call_refuses, same_run}
-use Rattle.columns.specs.Columns.{FieldsFit}
-use Rattle.records.proofs.Widths.{few_sets}
 use Rattle.checks.specs.declared.WriteAnswer.{WriteAnswer}
 use Rattle.checks.specs.declared.WriteAnswer.TheVariants.{Written, Refused}
 use Rattle.checks.specs.Answers.{write_answered}
-use Rattle.fields.specs.declared.FieldsAnswer.{FieldsAnswer}
-use Rattle.fields.specs.declared.FieldsAnswer.TheVariants as Fields
-use Rattle.fields.specs.Answers.{fields_answered}
 use Rattle.checks.proofs.Runs.{Gave, gave, not_gave, front}
 
--- buffers of 4,095 entries have room for any game's fields
-roomy : (game : List ℕ) (b : GameFields) → FieldsFit count_limit count_limit b → long_enough (lengths shape (lists (fields_of (game_of game)))) (lengths shape (lists b)) ≡ true
-unfolding fields_of
-roomy game b L =
-    let g = game_of game in
-    let H = few_sets game in
-    let N = (game_limits game).nodes in
-    rw (
-      length_list_to g.sets (player_field g),
-      length_list_to g.sets g.set_moves,
-      length_list_to g.nodes g.kind,
-      length_list_to g.nodes g.parent,
-      length_list_to g.nodes g.move,
-      length_list_to g.nodes g.weight,
-      length_list_to g.nodes (set_field g),
-      length_list_to g.nodes (moves_field g),
-      length_list_to g.nodes (payoff_field g one),
-      length_list_to g.nodes (payoff_field g two),
-      le-leb g.sets (length b.set_players) (omega (arith, H, L.set_players)),
-      le-leb g.sets (length b.set_moves) (omega (arith, H, L.set_moves)),
-      le-leb g.nodes (length b.kinds) (omega (arith, N, L.kinds)),
-      le-leb g.nodes (length b.parents) (omega (arith, N, L.parents)),
-      le-leb g.nodes (length b.moves) (omega (arith, N, L.moves)),
-      le-leb g.nodes (length b.weights) (omega (arith, N, L.weights)),
-      le-leb g.nodes (length b.node_sets) (omega (arith, N, L.node_sets)),
-      le-leb g.nodes (length b.chance_moves) (omega (arith, N, L.chance_moves)),
-      le-leb g.nodes (length b.payoffs1) (omega (arith, N, L.payoffs1)),
-      le-leb g.nodes (length b.payoffs2) (omega (arith, N, L.payoffs2)),
-    )
-
--- Read, and written again: what reading refuses.
-pub rewrite_refused : (game out : List ℕ) {r : FieldsAnswer} {k m : ℕ} {a0 a1 a2 a3 a4 a5 a6 a7 b0 b1 b2 b3 b4 b5 b6 b7 : List ℕ} {a8 a9 b8 b9 : List ℤ} → outcome (fields_answered r) (lists (field_lists a0 a1 a2 a3 a4 a5 a6 a7 a8 a9)) ≡ GameFields.game_fields_of game (lists (field_lists b0 b1 b2 b3 b4 b5 b6 b7 b8 b9)) → r ≡ Fields.Refused k → m ≡ refusal_of (fields_answered r) → FieldsFit count_limit count_limit (field_lists b0 b1 b2 b3 b4 b5 b6 b7 b8 b9) → outcome (refused m) (out, tt) ≡ RewriteGame.rewrite_game_of game out
-unfolding GameFields.call RewriteGame.call
-rewrite_refused game out {r} {k} {m} {b0 = b0} {b1 = b1} {b2 = b2} {b3 = b3} {b4 = b4} {b5 = b5} {b6 = b6} {b7 = b7} {b8 = b8} {b9 = b9} e f g L =
-    let lent = field_lists b0 b1 b2 b3 b4 b5 b6 b7 b8 b9 in
-    let s : Refuses game_rows game k = not_gave GameFields.call game_named game (lists lent) e (ap fields_answered f) (λ z. roomy game lent L) in
-    rw (g, f) (sym (call_refuses RewriteGame.call game_named game (out, tt) s))
-
--- D0, and as many entries of the buffers as are read
-abbrev pub fronts : (d h n : ℕ) → Buffers shape → GameFields
-fronts d h n a = game_fields_of d (take h a.0) (take h a.1.0) (take n a.1.1.0) (take n a.1.1.1.0) (take n a.1.1.1.1.0) (take n a.1.1.1.1.1.0) (take n a.1.1.1.1.1.1.0) (take n a.1.1.1.1.1.1.1.0) (take n a.1.1.1.1.1.1.1.1.0) (take n a.1.1.1.1.1.1.1.1.1.0)
-
--- What reading gives.
-pub record Read (game : List ℕ) (d h n : ℕ) (after : Buffers shape) : Type 0 where
-  pub accepted : refusal game_rows game ≡ 0
-  pub few_sets_read : h ≤ count_limit
-  pub few_nodes_read : n ≤ count_limit
-  pub fields : fronts d h n after ≡ fields_of (game_of game)
-
-pub read_given : (game : List ℕ) (b : Buffers shape) {after : Buffers shape} {r : FieldsAnswer} {d h n : ℕ} → outcome (fields_answered r) after ≡ GameFields.game_fields_of game b → r ≡ Fields.Given n h d → Read game d h n after
-unfolding GameFields.call fields_of
-read_given game b {after} {r} {d} {h} {n} e f =
-    let g = game_of game in
-    let G : Gave GameFields.call game_named game b (record { nodes = n; sets = h; root_weight = d }) after = gave GameFields.call game_named game b e (ap fields_answered f) in
-    let nn : n ≡ g.nodes = ap (λ (c : Counts). c.nodes) G.result in
-    let hh : h ≡ g.sets = ap (λ (c : Counts). c.sets) G.result in
-    record {
-      accepted = G.fine;
-      few_sets_read = omega (arith, hh, few_sets game);
-      few_nodes_read = omega (arith, nn, (game_limits game).nodes);
-      fields = λ i. record {
-        root_weight = ap (λ (c : Counts). c.root_weight) G.result i;
-        set_players = front h (fields_of g).set_players b.0 after.0 (length_list_to g.sets (player_field g) ∙ sym hh) (ap (λ (x : Buffers shape). x.0) G.buffers) i;
-        set_moves = front h (fields_of g).set_moves b.1.0 after.1.0 (length_list_to g.sets g.set_moves ∙ sym hh) (ap (λ (x : Buffers shape). x.1.0) G.buffers) i;
-        kinds = front n (fields_of g).kinds b.1.1.0 after.1.1.0 (length_list_to g.nodes g.kind ∙ sym nn) (ap (λ (x : Buffers shape). x.1.1.0) G.buffers) i;
-        parents = front n (fields_of g).parents b.1.1.1.0 after.1.1.1.0 (length_list_to g.nodes g.parent ∙ sym nn) (ap (λ (x : Buffers shape). x.1.1.1.0) G.buffers) i;
-        moves = front n (fields_of g).moves b.1.1.1.1.0 after.1.1.1.1.0 (length_list_to g.nodes g.move ∙ sym nn) (ap (λ (x : Buffers shape). x.1.1.1.1.0) G.buffers) i;
-        weights = front n (fields_of g).weights b.1.1.1.1.1.0 after.1.1.1.1.1.0 (length_list_to g.nodes g.weight ∙ sym nn) (ap (λ (x : Buffers shape). x.1.1.1.1.1.0) G.buffers) i;
-        node_sets = front n (fields_of g).node_sets b.1.1.1.1.1.1.0 after.1.1.1.1.1.1.0 (length_list_to g.nodes (set_field g) ∙ sym nn) (ap (λ (x : Buffers shape). x.1.1.1.1.1.1.0) G.buffers) i;
-        chance_moves = front n (fields_of g).chance_moves b.1.1.1.1.1.1.1.0 after.1.1.1.1.1.1.1.0 (length_list_to g.nodes (moves_field g) ∙ sym nn) (ap (λ (x : Buffers shape). x.1.1.1.1.1.1.1.0) G.buffers) i;
-        payoffs1 = front n (fields_of g).payoffs1 b.1.1.1.1.1.1.1.1.0 after.1.1.1.1.1.1.1.1.0 (length_list_to g.nodes (payoff_field g one) ∙ sym nn) (ap (λ (x : Buffers shape). x.1.1.1.1.1.1.1.1.0) G.buffers) i;
-        payoffs2 = front n (fields_of g).payoffs2 b.1.1.1.1.1.1.1.1.1.0 after.1.1.1.1.1.1.1.1.1.0 (length_list_to g.nodes (payoff_field g two) ∙ sym nn) (ap (λ (x : Buffers shape). x.1.1.1.1.1.1.1.1.1.0) G.buffers) i;
-      };
-    }
-
--- fields that fit are not refused by the writer
-taken : (t : GameFields) → T (game_fields_fit t) → refusal WriteGame.rows t ≡ 0
-unfolding WriteGame.rows refusal
-taken t fit = cond_yes {A = ℕ} (game_fields_fit t) 0 17 fit
-
--- the writer takes what is read, and writes the file's own bytes
-pub rewrite_given : (game out : List ℕ) → IsBytes game → {d h n : ℕ} {after : Buffers shape} → Read game d h n after → {h' n' : ℕ} → h' ≡ h → n' ≡ n → {o : Outcome (ℕ ∷ []) ℕ} → o ≡ WriteGame.write_game_of (fronts d h' n' after) out → o ≡ RewriteGame.rewrite_game_of game out
-unfolding WriteGame.call WriteGame.rows RewriteGame.call
-rewrite_given game out bytes R hh nn e =
-    let t = fields_of (game_of game) in
-    let (fit, same) = game_file_trip game bytes ((taken_iff game_decided game).1 R.accepted) in
-    e ∙ rw (hh, nn, R.fields) (same_run WriteGame.call RewriteGame.call tt game_named t game (out, tt) (taken t fit ∙ sym R.accepted) (λ e. (ap length same, rw same)))
-
--- as many entries as are read stand in each buffer
-pub fronts_stand : {game : List ℕ} {d h n : ℕ} {after : Buffers shape} → Read game d h n after → {h' n' : ℕ} → h' ≡ h → n' ≡ n → {l0 l1 l2 l3 l4 l5 l6 l7 l8 l9 : ℕ} → l0 ≡ count_limit → l1 ≡ count_limit → l2 ≡ count_limit → l3 ≡ count_limit → l4 ≡ count_limit → l5 ≡ count_limit → l6 ≡ count_limit → l7 ≡ count_limit → l8 ≡ count_limit → l9 ≡ count_limit → (h' ≤ l0) × (h' ≤ l1) × (n' ≤ l2) × (n' ≤ l3) × (n' ≤ l4) × (n' ≤ l5) × (n' ≤ l6) × (n' ≤ l7) × (n' ≤ l8) × (n' ≤ l9)
-fronts_stand R hh nn e0 e1 e2 e3 e4 e5 e6 e7 e8 e9 =
-    let h = R.few_sets_read in
-    let n = R.few_nodes_read in
-    (omega arith, omega arith, omega arith, omega arith, omega arith, omega arith, omega arith, omega arith, omega arith, omega arith)
+-- no file is longer than 49,145 bytes
+longest : (e : Edition) (sets nodes : ℕ) → sets < 4096 → nodes < 4096 → length_in e sets nodes ≤ 49145
+longest edition1 sets nodes h n = omega arith
+longest edition2 sets nodes h n = omega arith
 
 -- Written, and read back, with a file of the longest legal length to write to.
-module _ (t : GameFields) (l after : List ℕ) (r : WriteAnswer) (e : outcome (write_answered r) (after, tt) ≡ WriteGame.write_game_of t l) (long : 36860 ≤ length l) where
+module _ (t : FileFields) (l after : List ℕ) (r : WriteAnswer) (e : outcome (write_answered r) (after, tt) ≡ WriteGame.write_file t l) (long : 49145 ≤ length l) where
   -- a file whose counts fit is no longer
   short : refusal WriteGame.rows t ≡ 0 → length (game_bytes t) ≤ length l
   unfolding set_count node_count
-  short z = let fit = (taken_iff fit_decided t).1 z in omega (arith, length_game t, fit.set_count, fit.node_count)
+  short z = let fit = ((taken_iff fit_decided t).1 z).fields in omega (arith, length_game t, longest t.edition (length t.fields.set_players) (length t.fields.kinds) fit.set_count fit.node_count)
 
   enough : refusal WriteGame.rows t ≡ 0 → long_enough (length (game_bytes t) ∷ []) (length l ∷ []) ≡ true
   enough z = rw (le-leb (length (game_bytes t)) (length l) (short z))
 
   -- something does not fit
-  pub reread_refused : {k m : ℕ} → r ≡ Refused k → m ≡ refusal_of (write_answered r) → (b : Buffers shape) → outcome (refused m) b ≡ RereadGame.reread_game_of t b
+  pub reread_refused : {k m : ℕ} → r ≡ Refused k → m ≡ refusal_of (write_answered r) → (b : Buffers shape) → outcome (refused m) b ≡ run RereadGame.call t b
   unfolding WriteGame.call WriteGame.rows RereadGame.call RereadGame.rows
   reread_refused {k} f g b =
       let s : Refuses WriteGame.rows t k = not_gave WriteGame.call tt t (l, tt) e (ap write_answered f) enough in
       rw (g, f) (sym (call_refuses RereadGame.call reread_decided.numbered t b (stops_in WriteGame.rows (of game_bytes game_rows) tt (begin RereadGame.rows t) s)))
 
   -- what is written holds the fields that are given
-  same_fields : refusal WriteGame.rows t ≡ 0 → (CheckGame.counts_of (game_bytes t) ≡ RereadGame.counts_given t) × (lists (fields_of (game_of (game_bytes t))) ≡ lists t)
+  same_fields : refusal WriteGame.rows t ≡ 0 → (CheckGame.counts_of (game_bytes t) ≡ RereadGame.counts_given t.fields) × (lists (fields_of (game_of (game_bytes t))) ≡ lists t.fields)
   unfolding fields_of set_count node_count
   same_fields z =
       let g = game_of (game_bytes t) in
-      let trip = game_fields_trip t ((fields_fit_iff t).passes ((taken_iff fit_decided t).1 z)) in
-      let nodes : g.nodes ≡ length t.kinds = sym (length_list_to g.nodes g.kind) ∙ ap (λ (x : GameFields). length x.kinds) trip in
-      let sets : g.sets ≡ length t.set_players = sym (length_list_to g.sets (player_field g)) ∙ ap (λ (x : GameFields). length x.set_players) trip in
+      let trip = game_fields_trip t ((file_fields_fit_iff t).passes ((taken_iff fit_decided t).1 z)) in
+      let nodes : g.nodes ≡ length t.fields.kinds = sym (length_list_to g.nodes g.kind) ∙ ap (λ (x : GameFields). length x.kinds) trip in
+      let sets : g.sets ≡ length t.fields.set_players = sym (length_list_to g.sets (player_field g)) ∙ ap (λ (x : GameFields). length x.set_players) trip in
       (λ i. record { nodes = nodes i; sets = sets i; root_weight = (trip i).root_weight }, ap lists trip)
 
   -- what is written is read back as it was given
-  pub reread_given : {n : ℕ} → r ≡ Written n → (n ≤ length l) × ((b : Buffers shape) → GameFields.game_fields_of (take n after) b ≡ RereadGame.reread_game_of t b)
+  pub reread_given : {n : ℕ} → r ≡ Written n → (n ≤ length l) × ((b : Buffers shape) → GameFields.game_fields_of (take n after) b ≡ run RereadGame.call t b)
   unfolding WriteGame.call WriteGame.rows RereadGame.call RereadGame.rows GameFields.call
   reread_given {n} f =
       let G : Gave WriteGame.call tt t (l, tt) n (after, tt) = gave WriteGame.call tt t (l, tt) e (ap write_answered f) in
       let whole : take n after ≡ game_bytes t = front n (game_bytes t) l after (sym G.result) (ap (λ (x : Buffers (ℕ ∷ [])). x.0) G.buffers) in
       let alike : refusal RereadGame.rows t ≡ refusal game_rows (game_bytes t) = (passes_all WriteGame.rows (of game_bytes game_rows) tt (begin RereadGame.rows t) G.fine).same ∙ refusal_of_lem game_bytes game_rows t in
       (omega (arith, G.result, short G.fine), λ b. rw whole (same_run GameFields.call RereadGame.call game_named reread_decided.numbered (game_bytes t) t b (sym alike) (λ z. same_fields G.fine)))
+
+-- Edition 2: the own sequence numbers.
+module _ (f : GameFields) (s : List ℕ) (l after : List ℕ) (r : WriteAnswer) (e : outcome (write_answered r) (after, tt) ≡ WriteGame.write_game2 f s l) (long : 49145 ≤ length l) where
+  abbrev t : FileFields
+  t = fields2 f s
+
+  -- something does not fit
+  pub sequences_refused : {k : ℕ} → r ≡ Refused k → (out : List ℕ) → outcome (write_answered r) (out, tt) ≡ reread_sequences_of f s out
+  unfolding WriteGame.call WriteGame.rows RereadSequences.call RereadGame.rows
+  sequences_refused {k} g out =
+      let z : Refuses WriteGame.rows t k = not_gave WriteGame.call tt t (l, tt) e (ap write_answered g) (enough t l after r e long) in
+      rw g (sym (call_refuses RereadSequences.call reread_decided.numbered t (out, tt) (stops_in WriteGame.rows (of game_bytes game_rows) tt (begin RereadGame.rows t) z)))
+
+  -- what is written is read back as it was given
+  pub sequences_given : {n : ℕ} → r ≡ Written n → (n ≤ length l) × ((out : List ℕ) → own_sequences_of (take n after) out ≡ reread_sequences_of f s out)
+  unfolding WriteGame.call WriteGame.rows RereadSequences.call RereadGame.rows OwnSequences.call
+  sequences_given {n} g =
+      let G : Gave WriteGame.call tt t (l, tt) n (after, tt) = gave WriteGame.call tt t (l, tt) e (ap write_answered g) in
+      let whole : take n after ≡ game_bytes t = front n (game_bytes t) l after (sym G.result) (ap (λ (x : Buffers (ℕ ∷ [])). x.0) G.buffers) in
+      let alike : refusal RereadGame.rows t ≡ refusal game_rows (game_bytes t) = (passes_all WriteGame.rows (of game_bytes game_rows) tt (begin RereadGame.rows t) G.fine).same ∙ refusal_of_lem game_bytes game_rows t in
+      let ok = (file_fields_fit_iff t).passes ((taken_iff fit_decided t).1 G.fine) in
+      let sets : (game_of (game_bytes t)).sets ≡ set_count f = sym (set_count_lem (game_of (game_bytes t))) ∙ ap set_count (game_fields_trip t ok) in
+      (omega (arith, G.result, short t l after r e long G.fine), λ out. rw whole (same_run OwnSequences.call RereadSequences.call game_named reread_decided.numbered (game_bytes t) t (out, tt) (sym alike) (λ z. (sets, ap (λ (k : List ℕ). (k, tt)) (sequences_trip f s ok ((taken_iff game_decided (game_bytes t)).1 z))))))

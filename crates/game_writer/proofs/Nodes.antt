@@ -1,9 +1,10 @@
 -- The records of nodes, and how many bits each has.
-use Prim.Native.Nat.{ℕ, zero, suc, ◌*◌}
+use Prim.Native.Nat.{ℕ, zero, suc, ◌+◌, ◌*◌}
 use mathlib.Core.Path.{◌≡◌, refl, ap, ◌∙◌}
 use lib.ListN.{length, length-append}
 use Rattle.algebra.specs.Arrays.{item}
-use Rattle.model.specs.Writing.{GameFields, set_bits, payload_bits, node_bits}
+use Rattle.model.specs.Game.{Edition, edition1, edition2, entry_bytes}
+use Rattle.model.specs.Writing.{GameFields, FileFields, sequence_bits, set_bits, payload_bits, node_bits}
 use Rattle.model.proofs.Bits.{length_bits}
 use Rattle.records.specs.declared.game_file.NodeRecord.{NodeRecord}
 use Rattle.records.specs.Records as Records
@@ -37,7 +38,11 @@ pub node_width : (t : GameFields) (n : ℕ) → length (node_bits t n) ≡ 8 * 8
 unfolding node_bits
 node_width t n = simp (length-append, length_bits, payload_width)
 
--- 1 byte of set entry
-pub set_width : (t : GameFields) (h : ℕ) → length (set_bits t h) ≡ 8 * 1
+-- the edition's bytes of set entry
+pub set_width : (t : FileFields) (h : ℕ) → length (set_bits t h) ≡ 8 * entry_bytes t.edition
 unfolding set_bits
-set_width t h = simp (length-append, length_bits)
+set_width t h = rw (length-append, length-append, length_bits, length_bits) (go t.edition (item t.sequences h))
+  where
+    go : (e : Edition) (k : ℕ) → 1 + 7 + length (sequence_bits e k) ≡ 8 * entry_bytes e
+    go edition1 k = refl
+    go edition2 k = simp (length-append, length_bits)

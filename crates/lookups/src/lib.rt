@@ -14,7 +14,7 @@ use loaded::Section;
 use records::{NodeRecord, Payload, SetEntry};
 use sequences::OwnSequence;
 
-// The answer to a game file: accepted, with N, H and D0, or the first refusal, 1 to 13.
+// The answer to a game file: accepted, with N, H and D0, or the first refusal, 1 to 13 or 22.
 #[derive(Drop)]
 pub enum GameAnswer {
     Accepted {
@@ -25,7 +25,7 @@ pub enum GameAnswer {
     Refused(u64),
 }
 
-// The entry of an information set: its player, 0 for player 1 and 1 for player 2, and its move count; a refusal is 1 to 13, or 17.
+// The entry of an information set: its player, 0 for player 1 and 1 for player 2, and its move count; a refusal is 1 to 13, 22 or 17.
 #[derive(Drop)]
 pub enum SetAnswer {
     Entry { player: u64, moves: u64 },
@@ -40,7 +40,7 @@ pub struct Place {
     pub weight: u64,
 }
 
-// The record of a node, by its kind; a refusal is 1 to 13, or 17.
+// The record of a node, by its kind; a refusal is 1 to 13, 22 or 17.
 #[derive(Drop)]
 pub enum NodeAnswer {
     Leaf {
@@ -59,7 +59,7 @@ pub enum NodeAnswer {
     Refused(u64),
 }
 
-// The own sequence leading to a set, by its number among the sequences of the set's player; a refusal is 1 to 13, or 17.
+// The own sequence leading to a set, by its number among the sequences of the set's player; a refusal is 1 to 13, 22 or 17.
 #[derive(Drop)]
 pub enum SequenceAnswer {
     Sequence(OwnSequence),
@@ -93,7 +93,7 @@ pub fn set_entry(game: &[u8], number: u64) -> SetAnswer
     let Checked::Fine = c17 else {
         return SetAnswer::Refused(checks::number(c17));
     };
-    let entry = SetEntry::read(game, bits::index(number));
+    let entry = SetEntry::read(game, header.edition, bits::index(number));
     SetAnswer::Entry {
         player: entry.player,
         moves: entry.moves as u64,

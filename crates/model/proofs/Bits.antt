@@ -7,7 +7,7 @@ use native.Mathlib.Omega.{arith}
 use native.Mathlib.Nat as NatL
 use native.Mathlib.Decide.{ℕ_discrete, dec_lt}
 use lib.Dec.{T, ltb, ltb→lt, lt→ltb}
-use lib.ListN.{length, get_or, drop}
+use lib.ListN.{length, get_or, drop, get_or-eq_default}
 use lib.Seq.{get_or-drop}
 use lib.IntN.{ℤ, pos, negsuc, nat_abs}
 use Rattle.algebra.proofs.Tests.{cond_yes, cond_no}
@@ -111,6 +111,15 @@ field_some bytes at width = (some width, λ r e. r.3 ((field_zero bytes at width
           | yes z ↦ let (i, l, m, d) = some width (λ e. n (omega arith)) in (i, l, omega arith, d)
           | no d ↦ (at + width, omega arith, omega arith, d)
         ]
+
+-- past a file's end every bit is 0
+bit_past : (bytes : List ℕ) (i : ℕ) → 8 * length bytes ≤ i → bit bytes i ≡ 0
+unfolding bit
+bit_past bytes i l = rw (get_or-eq_default bytes 0 {n = i / 8} (omega arith), NatL.zero-div (2 ^ (7 - i % 8)))
+
+-- and so is every field
+pub field_past : (bytes : List ℕ) (at width : ℕ) → 8 * length bytes ≤ at → field bytes at width ≡ 0
+field_past bytes at width l = (field_zero bytes at width).1 (λ i v w. bit_past bytes i (omega arith))
 
 -- a run has as many fields as are asked for
 pub length_fields : (bytes : List ℕ) (at width count : ℕ) → length (fields bytes at width count) ≡ count

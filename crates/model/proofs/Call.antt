@@ -76,6 +76,13 @@ call_refusal_lem {I = I} {shape = shape} c some i b =
     go zero second = refl
     go (suc k) second = cond_no (eqb (suc k) 0) second (suc k) (λ t. let z = eqb→eq (suc k) 0 t in omega arith)
 
+-- a call does the same for two inputs with the same refusal, result and contents of the buffers
+pub run_alike : {I R : Type 0} {shape : List (Type 0)} (c : Call I shape R) → T (named c.rows) → (i j : I) (b : Buffers shape) → refusal c.rows i ≡ refusal c.rows j → c.result i ≡ c.result j → c.written i ≡ c.written j → run c i b ≡ run c j b
+unfolding run
+run_alike {shape = shape} c some i j b before result written =
+    let number : call_refusal c i b ≡ call_refusal c j b = call_refusal_lem c some i b ∙ (λ k. or_else (before k) (cond (long_enough (lengths shape (written k)) (lengths shape b)) 0 18)) ∙ sym (call_refusal_lem c some j b) in
+    λ k. outcome (answer_of (number k) (result k)) (after_all shape (number k) (written k) b)
+
 -- what a call leaves of a good input: 18 alone decides, by the result and what is written
 abbrev pub left_in_of : {R : Type 0} {shape : List (Type 0)} → (result : R) → (results buffers : Buffers shape) → Outcome shape R
 left_in_of {shape = shape} result results buffers =

@@ -3,7 +3,9 @@ pub mod CheckGame
 pub mod CheckPlan
 pub mod GameFields
 pub mod NodeRecord
+pub mod OtherEdition
 pub mod OwnSequence
+pub mod OwnSequences
 pub mod PayoffTable
 pub mod PlanFields
 pub mod PlanFromSheet
@@ -11,6 +13,7 @@ pub mod RefusalLine
 pub mod Report
 pub mod RereadGame
 pub mod RereadPlan
+pub mod RereadSequences
 pub mod RewriteGame
 pub mod RewritePlan
 pub mod SetEntry

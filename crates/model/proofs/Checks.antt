@@ -1,4 +1,4 @@
--- Checks 1 to 16: the rows are decided, so that files that obey every rule are exactly those that no check sends back.
+-- Checks 1 to 16 and 22: the rows are decided, so that files that obey every rule are exactly those that no check sends back.
 use Prim.Native.Nat.{ℕ, suc, ◌<◌}
 use mathlib.Core.Path.{◌≡◌, refl}
 use mathlib.Core.Logic.Iff
@@ -12,8 +12,9 @@ use Rattle.model.specs.PlanChecks.{Files, files}
 use Rattle.model.specs.Rows.{of, refusal}
 use Rattle.model.specs.Rules.{GameRules, GameFile, PlanFile, GoodFiles}
 use Rattle.model.proofs.Rows.{named, AllPass, none, pass_of, pass_append, Decided, Any, decided_of, decided_append}
+use Rattle.model.proofs.Decisions.{and_iff}
 use Rattle.model.proofs.Reasons.{game_sound, plan_sound}
-use Rattle.model.proofs.GameRules.{Attached, header_iff, edition_iff, counts_iff, length_iff, set_moves_iff, records_iff, payloads_iff, attached_iff, moves_iff, weights_iff, paths_iff, set_node_iff, recall_iff}
+use Rattle.model.proofs.GameRules.{Attached, header_iff, edition_iff, counts_iff, length_iff, set_moves_iff, set_zeros_iff, records_iff, payloads_iff, attached_iff, moves_iff, weights_iff, paths_iff, set_node_iff, recall_iff, set_sequences_iff}
 use Rattle.model.proofs.PlanRules.{plan_length_iff, well_formed_iff, pair_fits_iff}
 
 -- no row of a file's checks has the number 0
@@ -49,8 +50,9 @@ module _ (bytes : List ℕ) where
   unfolding game_rows header_rows record_rows tree_rows
   game_obeys tests =
       let g = game_of bytes in
-      let (t1, (t2, (t3, (t4, (t5, (t6, (t7, (t8, (t9, (t10, (t11, (t12, (t13, end))))))))))))) = tests in
+      let (t1, (t2, (t3, (t4, (t5, (t6, (t7, (t8, (t9, (t10, (t11, (t12, (t13, (t22, end)))))))))))))) = tests in
       let counts = (counts_iff g).holds t3 in
+      let entries = (and_iff (set_moves_iff g) (set_zeros_iff bytes)).holds t5 in
       let records = (records_iff bytes).holds t6 in
       let payloads = (payloads_iff g).holds t7 in
       let attached = (attached_iff g counts.0).holds t8 in
@@ -60,12 +62,14 @@ module _ (bytes : List ℕ) where
         header = (header_iff bytes).holds t1;
         edition = (edition_iff bytes).holds t2;
         size = (length_iff bytes).holds t4;
+        set_zeros_lem = entries.1;
+        set_sequences = (set_sequences_iff bytes).holds t22;
         decision_zeros = records.1.0;
         chance_zeros = records.1.1;
         rules = record {
           some_node = counts.0;
           some_weight = counts.1;
-          set_moves_lem = (set_moves_iff g).holds t5;
+          set_moves_lem = entries.0;
           kinds = records.0;
           decision_set = payloads.0;
           chance_moves_lem = payloads.1;
@@ -94,7 +98,7 @@ module _ (bytes : List ℕ) where
       let t2 = (edition_iff bytes).passes file.edition in
       let t3 = (counts_iff g).passes (some, rules.some_weight) in
       let t4 = (length_iff bytes).passes file.size in
-      let t5 = (set_moves_iff g).passes rules.set_moves in
+      let t5 = (and_iff (set_moves_iff g) (set_zeros_iff bytes)).passes (rules.set_moves, file.set_zeros) in
       let t6 = (records_iff bytes).passes (rules.kinds, (file.decision_zeros, file.chance_zeros)) in
       let t7 = (payloads_iff g).passes (rules.decision_set, rules.chance_moves) in
       let t8 = (attached_iff g some).passes ((rules.root.0, rules.root.1), attached) in
@@ -103,7 +107,8 @@ module _ (bytes : List ℕ) where
       let t11 = (paths_iff g rules.parents).passes rules.paths in
       let t12 = (set_node_iff g).passes rules.set_node in
       let t13 = (recall_iff g).passes rules.recall in
-      (t1, (t2, (t3, (t4, (t5, (t6, (t7, (t8, (t9, (t10, (t11, (t12, (t13, tt)))))))))))))
+      let t22 = (set_sequences_iff bytes).passes file.set_sequences in
+      (t1, (t2, (t3, (t4, (t5, (t6, (t7, (t8, (t9, (t10, (t11, (t12, (t13, (t22, tt))))))))))))))
 
 -- a game file obeys every rule exactly where no check sends it back
 pub game_file_iff : (bytes : List ℕ) → GameFile bytes ↔ (game_refusal bytes ≡ 0)
@@ -164,7 +169,7 @@ module _ (game plan : List ℕ) where
       let part = pass_of (λ (f : Files). f.game) game_rows pair in
       Iff.trans (none pair_rows pair pair_named) (Iff.trans both (Iff.symm (Iff.and (Iff.trans (game_tests game) part) plan_tests)))
 
--- Rows 1 to 13.
+-- Rows 1 to 13, and 22.
 pub game_decided : Decided Any game_rows GameFile
 game_decided = record {
   numbered = game_named;
@@ -180,7 +185,7 @@ plan_decided = record {
   good = λ f k. (plan_passes f.game f.plan, plan_obeys f.game f.plan);
 }
 
--- Rows 1 to 16.
+-- Rows 1 to 13, 22, and 14 to 16.
 pub pair_decided : Decided Any pair_rows GoodFiles
 unfolding pair_rows
 pair_decided = decided_append (of (λ f. f.game) game_rows) plan_rows (decided_of (λ (f : Files). f.game) game_rows game_decided) plan_decided

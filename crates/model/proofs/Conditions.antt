@@ -11,9 +11,9 @@ use lib.ListN.{length, get_or, get_or-eq_default}
 use Rattle.algebra.specs.Bounded as Bounded
 use Rattle.algebra.specs.Divisors as Divisors
 use Rattle.model.specs.Bits as Bits
-use Rattle.model.specs.Bits.{pack, packed}
+use Rattle.model.specs.Bits.{field, pack, packed}
 use Rattle.model.specs.Game as Game
-use Rattle.model.specs.Game.{Game, game_of, Player, one, two}
+use Rattle.model.specs.Game.{Game, game_of, edition_in, Player, one, two}
 use Rattle.model.specs.Sequences as Sequences
 use Rattle.model.specs.Rows as Rows
 use Rattle.model.specs.Rows.{of, refusal}
@@ -25,11 +25,11 @@ use Rattle.model.specs.Plan.{plan_pair_of, plan_weights, Fits}
 use Rattle.model.specs.PlanChecks as PlanChecks
 use Rattle.model.specs.PlanChecks.{Files, files}
 use Rattle.model.specs.Writing as Writing
-use Rattle.model.specs.Writing.{GameFields, PlanFields, plan_fields_of, fields_of, game_bytes, plan_bytes}
+use Rattle.model.specs.Writing.{FileFields, fields2, PlanFields, plan_fields_of, file_fields_of, game_bytes, plan_bytes}
 use Rattle.model.specs.PlanOrder.{plan_file_of}
 use Rattle.model.specs.Sheet as Sheet
 use Rattle.model.specs.Sheet.{Odds, MoveOf, Serves, smallest_d, OverSmallest}
-use Rattle.model.specs.Rules.{GameRules, GameFile, PlanFile, GoodFiles, FieldsFit, PlanFieldsFit}
+use Rattle.model.specs.Rules.{GameRules, GameFile, PlanFile, GoodFiles, FileFieldsFit, PlanFieldsFit}
 use Rattle.model.specs.Call.{RoomFor, refused, answer_of, run}
 use Rattle.model.specs.Exported.{refusal_of}
 use Rattle.model.specs.Calls.Asked.{asked}
@@ -41,12 +41,12 @@ use Rattle.model.specs.Calls.SheetFromPlan.{made_sheet}
 use Rattle.model.specs.Demand1.{InGame}
 use Rattle.model.specs.Demand2.{IsBytes}
 use Rattle.model.specs.Starred as Starred
-use Rattle.model.specs.Starred.{study, plan_f}
+use Rattle.model.specs.Starred.{study_fields, study, plan_f}
 use Rattle.model.proofs.Bits.{numeral_fits, length_packed, packed_at}
 use Rattle.model.proofs.Spelling.{BitList}
-use Rattle.model.proofs.Rules.{fields_fit_iff, plan_fields_fit_iff}
+use Rattle.model.proofs.Rules.{file_fields_fit_iff, plan_fields_fit_iff}
 use Rattle.model.proofs.Checks.{game_file_iff, plan_file_iff, pair_named}
-use Rattle.model.proofs.Rows.{taken_iff, refusal_below}
+use Rattle.model.proofs.Rows.{taken_iff, refusal_other}
 use Rattle.model.proofs.Call.{or_else, call_refusal_lem}
 use Rattle.model.proofs.Sheets.{smallest_positive, smallest_serves}
 use Rattle.model.proofs.Calls.PlanFromSheet as PlanFromSheet
@@ -64,8 +64,8 @@ pack_bytes l p i =
       | no v ↦ omega (arith, get_or-eq_default (packed count l) 0 {n = i} (omega (arith, length_packed count l)))
     ]
 
--- `IsBytes`: by whatever the game writer writes
-pub game_bytes_lem : (t : GameFields) → IsBytes (game_bytes t)
+-- `IsBytes`: by whatever the game writers write
+pub game_bytes_lem : (t : FileFields) → IsBytes (game_bytes t)
 game_bytes_lem t = rw (game_is t) (pack_bytes (game_bits t) (bitlist_game t))
 
 -- and by whatever the plan writer writes
@@ -82,6 +82,22 @@ game_file_lem = (game_file_iff study).1 game_accepted
 
 pub game_rules : GameRules (game_of study)
 game_rules = game_file_lem.rules
+
+-- what is said of edition 2 alone: by the same game in it, with the numbers of the sequences leading to its sets
+abbrev study2 : FileFields
+study2 = fields2 study_fields (0 ∷ 0 ∷ 1 ∷ [])
+
+pub game_file2 : GameFile (game_bytes study2)
+unfolding Bounded.opened Bits.opened Game.opened Sequences.opened Rows.opened Checks.opened GameChecks.opened Writing.opened Starred.opened
+game_file2 = (game_file_iff (game_bytes study2)).1 refl
+
+pub edition2_named : field (game_bytes study2) 0 4 ≡ 2
+unfolding Bounded.opened Bits.opened Writing.opened Starred.opened
+edition2_named = refl
+
+pub fields_fit2 : FileFieldsFit study2
+unfolding Bounded.opened Bits.opened Writing.opened Starred.opened
+fields_fit2 = (file_fields_fit_iff study2).holds tt
 
 -- `PlanFits`, `PlanFile`, `GoodFiles`: by plan F with it
 pub plan_fits : PlanFits study plan_f
@@ -103,9 +119,13 @@ pub node_in_game : InGame (λ g. g.nodes) (asked study 8)
 unfolding Bounded.opened Bits.opened Game.opened Writing.opened Starred.opened
 node_in_game = (game_file_lem, lit< tt)
 
--- `FieldsFit`: by the fields of any good game file
-pub fields_fit : (bytes : List ℕ) → IsBytes bytes → GameFile bytes → FieldsFit (fields_of (game_of bytes))
-fields_fit bytes small file = (fields_fit_iff (fields_of (game_of bytes))).holds (game_file_trip bytes small file).0
+-- what the writer of its edition is given of a game file
+abbrev game_in : List ℕ → FileFields
+game_in bytes = file_fields_of (edition_in bytes) (game_of bytes)
+
+-- `FileFieldsFit`, `FieldsFit`: by the fields of any good game file
+pub fields_fit : (bytes : List ℕ) → IsBytes bytes → GameFile bytes → FileFieldsFit (game_in bytes)
+fields_fit bytes small file = (file_fields_fit_iff (game_in bytes)).holds (game_file_trip bytes small file).0
 
 -- D1, D2 and the weights of a plan file
 abbrev plan_in : Files → PlanFields
@@ -116,7 +136,7 @@ pub plan_fields_fit_lem : (f : Files) → IsBytes f.plan → GoodFiles f → Pla
 plan_fields_fit_lem f small good = (plan_fields_fit_iff _).holds (plan_file_trip (game_of f.game) f.plan small good.1).0
 
 -- what is asked of fields that are written and read back: by the same fields, whose written file is the good file
-pub fields_reread : (bytes : List ℕ) → IsBytes bytes → GameFile bytes → let t = fields_of (game_of bytes) in FieldsFit t × GameFile (game_bytes t)
+pub fields_reread : (bytes : List ℕ) → IsBytes bytes → GameFile bytes → FileFieldsFit (game_in bytes) × GameFile (game_bytes (game_in bytes))
 fields_reread bytes small file = (fields_fit bytes small file, subst GameFile (sym (game_file_trip bytes small file).1) file)
 
 pub plan_reread : (f : Files) → IsBytes f.plan → GoodFiles f → let t = plan_in f in PlanFieldsFit t × GoodFiles (files f.game (bytes_of t))
@@ -161,8 +181,8 @@ unfolding Verdict.call run pair_rows game_rows header_rows record_rows tree_rows
 room_serves game plan =
     let f = files game plan in
     rw (call_refusal_lem Verdict.call pair_named f (moves_of f, tt), le-leb (length (moves_of f)) (length (moves_of f)) (omega arith))
-    (go ((Verdict.call).result f) (refusal pair_rows f) (refusal_below pair_rows f 17 (omega arith) tt))
+    (go ((Verdict.call).result f) (refusal pair_rows f) (refusal_other pair_rows f 18 (λ z. omega arith) tt))
   where
-    go : (s : Stated) (k : ℕ) → k < 17 → ¬ (answer_of (or_else k 0) s ≡ refused 18)
-    go s zero l e = let z : ◌≡◌ {A = ℕ} 0 18 = ap refusal_of e in omega arith
-    go s (suc k) l e = let z : ◌≡◌ {A = ℕ} (suc k) 18 = ap refusal_of e in omega arith
+    go : (s : Stated) (k : ℕ) → ¬ (k ≡ 18) → ¬ (answer_of (or_else k 0) s ≡ refused 18)
+    go s zero d e = let z : ◌≡◌ {A = ℕ} 0 18 = ap refusal_of e in omega arith
+    go s (suc k) d e = d (ap refusal_of e)

@@ -10,7 +10,7 @@ use lib.ListN.{length, get_or, take}
 use lib.Seq.{length-take-le, take_all, get_or-take}
 use Rattle.algebra.proofs.Tests.{T→true, not→false, cond_no}
 use Rattle.model.specs.Bits.{bit, field}
-use Rattle.model.specs.Game.{game_of}
+use Rattle.model.specs.Game.{game_of, Edition, edition1, edition2, edition_in, length_in}
 use Rattle.model.specs.GameChecks.{has_header_of, has_edition_of, counts_positive_of, has_length_of}
 use Rattle.model.specs.Plan.{plan_moves}
 use Rattle.model.specs.PlanChecks.{Files, files, plan_has_length}
@@ -74,10 +74,14 @@ pairs_alike a b games plans =
 good : (game plan : List ℕ) → pair_refusal game plan ≡ 0 → GoodFiles (files game plan)
 good game plan e = (taken_iff pair_decided (files game plan)).1 (sym (pair_refusal_lem game plan) ∙ e)
 
--- no header gives a longer game
-game_most : (game : List ℕ) → 5 + (game_of game).sets + 8 * (game_of game).nodes ≤ longest_game
+-- no header gives a longer game, in either edition
+game_most : (game : List ℕ) → length_in (edition_in game) (game_of game).sets (game_of game).nodes ≤ longest_game
 unfolding longest_game game_of
-game_most game = omega (arith, field_fits game 4 12, field_fits game 16 12)
+game_most game = most (edition_in game)
+  where
+    most : (e : Edition) → length_in e (field game 16 12) (field game 4 12) ≤ length_in edition2 4095 4095
+    most edition1 = omega (arith, field_fits game 4 12, field_fits game 16 12)
+    most edition2 = omega (arith, field_fits game 4 12, field_fits game 16 12)
 
 -- and no accepted game has a longer plan
 plan_most : (game : List ℕ) → GameFile game → 4 + (12 * plan_moves (game_of game) + 7) / 8 ≤ longest_plan

@@ -2,7 +2,7 @@
 use Prim.Native.Nat.{ℕ, zero, suc, ◌≤◌, ◌<◌}
 use mathlib.Core.Path.{◌≡◌, subst}
 use mathlib.Core.Logic.{◌⊎◌, inl, inr, ⊎_elim}
-use mathlib.Core.Bool.{Bool, true, false, not, ◌&&◌}
+use mathlib.Core.Bool.{Bool, true, false, not, ◌&&◌, ◌||◌}
 use native.Mathlib.Omega.{arith}
 use native.Mathlib.Decide.{ℕ_discrete}
 use lib.Dec.{T, eqb, ltb, leb, eqb→eq, ltb→lt, lt→ltb, leb→le, le→leb, T_not, not_T}
@@ -42,6 +42,11 @@ and_iff {a} {b} d e = record {
   holds = λ t. let h = and_yes a b t in (d.holds h.0, e.holds h.1);
   passes = λ h. yes_and a b (d.passes h.0) (e.passes h.1);
 }
+
+-- one of two
+pub or_iff : {a b : Bool} {P Q : Type 0} → Decides a P → Decides b Q → Decides (a || b) (P ⊎ Q)
+or_iff {a = true} d e = record { holds = λ t. inl (d.holds tt); passes = λ h. tt }
+or_iff {a = false} d e = record { holds = λ t. inr (e.holds t); passes = λ h. ⊎_elim (λ p. absurd (d.passes p)) e.passes h }
 
 -- the second where the first
 pub implies_iff : {a b : Bool} {P Q : Type 0} → Decides a P → Decides b Q → Decides (implies a b) (P → Q)
@@ -123,6 +128,11 @@ not_fails {a = false} d = record { applies = λ n. absurd (n tt); fails = λ h t
 pub and_fails : {a b : Bool} {P Q : Type 0} → Fails a P → Fails b Q → Fails (a && b) (P ⊎ Q)
 and_fails {a = true} d e = record { applies = λ n. inr (e.applies n); fails = ⊎_elim (λ h. absurd (d.fails h tt)) e.fails }
 and_fails {a = false} d e = record { applies = λ n. inl (d.applies n); fails = λ h t. t }
+
+-- neither of two
+pub or_fails : {a b : Bool} {P Q : Type 0} → Fails a P → Fails b Q → Fails (a || b) (P × Q)
+or_fails {a = true} d e = record { applies = λ n. absurd (n tt); fails = λ h t. d.fails h.0 tt }
+or_fails {a = false} d e = record { applies = λ n. (d.applies (λ t. t), e.applies n); fails = λ h. e.fails h.1 }
 
 -- the first without the second
 pub implies_fails : {a b : Bool} {P Q : Type 0} → Decides a P → Fails b Q → Fails (implies a b) (P × Q)

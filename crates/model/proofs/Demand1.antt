@@ -4,6 +4,7 @@ use Rattle.model.proofs.Calls.CheckGame as CheckGame
 use Rattle.model.proofs.Calls.SetEntry as SetEntry
 use Rattle.model.proofs.Calls.NodeRecord as NodeRecord
 use Rattle.model.proofs.Calls.OwnSequence as OwnSequence
+use Rattle.model.proofs.Calls.OwnSequences as OwnSequences
 use Rattle.model.proofs.Calls.GameFields as GameFields
 use Rattle.model.proofs.Calls.CheckPlan as CheckPlan
 use Rattle.model.proofs.Calls.PlanFields as PlanFields
@@ -15,8 +16,10 @@ use Rattle.model.proofs.Calls.RefusalLine as RefusalLine
 use Rattle.model.proofs.Calls.WriteGame as WriteGame
 use Rattle.model.proofs.Calls.WritePlan as WritePlan
 use Rattle.model.proofs.Calls.RewriteGame as RewriteGame
+use Rattle.model.proofs.Calls.OtherEdition as OtherEdition
 use Rattle.model.proofs.Calls.RewritePlan as RewritePlan
 use Rattle.model.proofs.Calls.RereadGame as RereadGame
+use Rattle.model.proofs.Calls.RereadSequences as RereadSequences
 use Rattle.model.proofs.Calls.RereadPlan as RereadPlan
 use Rattle.model.proofs.Calls.PlanFromSheet as PlanFromSheet
 use Rattle.model.proofs.Calls.SheetFromPlan as SheetFromPlan
@@ -28,6 +31,7 @@ demand1 = record {
   set_entry_lem = SetEntry.demand1;
   node_record_lem = NodeRecord.demand1;
   own_sequence_lem = OwnSequence.demand1;
+  own_sequences_lem = OwnSequences.demand1;
   game_fields_lem = GameFields.demand1;
   check_plan_lem = CheckPlan.demand1;
   plan_fields_lem = PlanFields.demand1;
@@ -40,8 +44,10 @@ demand1 = record {
   write_game_lem = WriteGame.demand1;
   write_plan_lem = WritePlan.demand1;
   rewrite_game_lem = RewriteGame.demand1;
+  other_edition_lem = OtherEdition.demand1;
   rewrite_plan_lem = RewritePlan.demand1;
   reread_game_lem = RereadGame.demand1;
+  reread_sequences_lem = RereadSequences.demand1;
   reread_plan_lem = RereadPlan.demand1;
   plan_from_sheet_lem = PlanFromSheet.demand1;
   sheet_from_plan_lem = SheetFromPlan.demand1;

@@ -1,7 +1,7 @@
 -- What the writers ask of the fields that they are given, in plain propositions.
 use Prim.Native.Nat.{ℕ, zero, suc, ◌^◌, ◌<◌}
 use mathlib.Core.Path.{◌≡◌, refl}
-use mathlib.Core.Bool.{Bool, false, ◌&&◌}
+use mathlib.Core.Bool.{Bool, true, false, ◌&&◌}
 use mathlib.Core.List.{List, [], ◌∷◌}
 use native.Mathlib.Omega.{arith}
 use native.Mathlib.Decide.{dec_lt}
@@ -12,7 +12,8 @@ use lib.Pow.{pow_pos}
 use Rattle.algebra.specs.Arrays.{item, item_z}
 use Rattle.algebra.specs.Bounded.{list_to}
 use Rattle.algebra.proofs.Lists.{length_list_to, list_to_at}
-use Rattle.model.specs.Writing.{GameFields, set_count, node_count, all_fit, fits_signed_of, all_fit_signed_of, is_zero, kind_fits_of, side_by_side, numbers_fit, game_fields_fit, plan_fields_fit}
+use Rattle.model.specs.Game.{Edition, edition1, edition2}
+use Rattle.model.specs.Writing.{GameFields, FileFields, set_count, node_count, all_fit, fits_signed_of, all_fit_signed_of, is_zero, kind_fits_of, side_by_side, numbers_fit, game_fields_fit, sequences_fit, file_fields_fit, plan_fields_fit}
 use Rattle.model.proofs.Decisions.{Decides, itself_iff, eqb_iff, ltb_iff, same_iff, and_iff, all_iff}
 
 -- the number fits the width
@@ -36,16 +37,20 @@ entries_more P d x l first rest (suc i) = rest i
 abbrev pub Column : {A : Type 0} → (A → Type 0) → (d : A) → (count : ℕ) → List A → Type 0
 Column P d count l = (length l ≡ count) × Entries P d l
 
--- the list of values that have the property
-pub column : {A : Type 0} (P : A → Type 0) (d : A) (count : ℕ) (f : ℕ → A) → P d → ((i : ℕ) → P (f i)) → Column P d count (list_to count f)
-column P d count f none each = (length_list_to count f, entries)
+-- the list of values that have the property, each below the count
+pub column_below : {A : Type 0} (P : A → Type 0) (d : A) (count : ℕ) (f : ℕ → A) → P d → ((i : ℕ) → i < count → P (f i)) → Column P d count (list_to count f)
+column_below P d count f none each = (length_list_to count f, entries)
   where
     entries : Entries P d (list_to count f)
     entries i =
         elim (dec_lt i count) [
-          | yes l ↦ rw (list_to_at d count f i l) (each i)
+          | yes l ↦ rw (list_to_at d count f i l) (each i l)
           | no l ↦ rw (get_or-eq_default (list_to count f) d {n = i} (omega (arith, length_list_to count f))) none
         ]
+
+-- or all of them
+pub column : {A : Type 0} (P : A → Type 0) (d : A) (count : ℕ) (f : ℕ → A) → P d → ((i : ℕ) → P (f i)) → Column P d count (list_to count f)
+column P d count f none each = column_below P d count f none (λ i l. each i)
 
 -- a test of every entry
 pub all_fit_iff : (width : ℕ) (l : List ℕ) → Decides (all_fit width l) (Entries (FitsWidth width) 0 l)
@@ -101,7 +106,7 @@ module _ (t : GameFields) where
   kind_below (suc (suc zero)) n x = omega arith
   kind_below (suc (suc (suc k))) n x = absurd x
 
--- What the game writer asks: lists side by side, numbers that fit, and nothing that a node's kind lacks.
+-- What the game writers ask of the fields: lists side by side, numbers that fit, and nothing that a node's kind lacks.
 pub record FieldRules (t : GameFields) : Type 0 where
   pub sets : FitsWidth 12 (set_count t)
   pub nodes : FitsWidth 12 (node_count t)
@@ -117,7 +122,7 @@ pub record FieldRules (t : GameFields) : Type 0 where
   pub payoffs2 : Column (InRange 16) (pos 0) (node_count t) t.payoffs2
   pub kinds : (n : ℕ) → n < node_count t → Lacks t (item t.kinds n) n
 
--- check 17 of the game writer
+-- check 17 of the fields of a game
 pub game_fields_iff : (t : GameFields) → Decides (game_fields_fit t) (FieldRules t)
 unfolding game_fields_fit side_by_side numbers_fit
 game_fields_iff t =
@@ -171,6 +176,24 @@ game_fields_iff t =
   where
     counted : {A : Type 0} (l : List A) → Decides (eqb (length l) (node_count t)) (length l ≡ node_count t)
     counted l = eqb_iff (length l) (node_count t)
+
+-- What the writer of edition 2 asks of the own sequence numbers: a list beside the sets' others, of numbers that fit.
+abbrev pub SequenceRules : Edition → (sets : ℕ) → List ℕ → Type 0
+SequenceRules edition1 sets sequences = Unit {0}
+SequenceRules edition2 sets sequences = Column (FitsWidth 12) 0 sets sequences
+
+-- What the game writers ask.
+abbrev pub FileRules : FileFields → Type 0
+FileRules t = FieldRules t.fields × SequenceRules t.edition (set_count t.fields) t.sequences
+
+sequences_fit_iff : (e : Edition) (sets : ℕ) (sequences : List ℕ) → Decides (sequences_fit e sets sequences) (SequenceRules e sets sequences)
+sequences_fit_iff edition1 sets sequences = itself_iff true
+sequences_fit_iff edition2 sets sequences = eqb_iff (length sequences) sets and all_fit_iff 12 sequences
+
+-- check 17 of the game writers
+pub file_fields_iff : (t : FileFields) → Decides (file_fields_fit t) (FileRules t)
+unfolding file_fields_fit
+file_fields_iff t = game_fields_iff t.fields and sequences_fit_iff t.edition (set_count t.fields) t.sequences
 
 -- What the plan writer asks: numbers that fit.
 abbrev pub PlanFitting : (d1 d2 : ℕ) → (weights : List ℕ) → Type 0

@@ -1,6 +1,7 @@
 -- Each check of a game file decides a rule of document 01.
-use Prim.Native.Nat.{ℕ, zero, suc, ◌+◌, ◌*◌, ◌≤◌, ◌<◌}
+use Prim.Native.Nat.{ℕ, zero, suc, ◌+◌, ◌≤◌, ◌<◌}
 use mathlib.Core.Path.{◌≡◌, refl, sym, ◌∙◌}
+use mathlib.Core.Logic.{◌⊎◌}
 use mathlib.Core.Bool.{not}
 use mathlib.Core.List.{List}
 use native.Mathlib.Omega.{arith}
@@ -8,15 +9,15 @@ use lib.Dec.{T, eqb}
 use lib.ListN.{length}
 use Rattle.algebra.specs.Bounded.{all_to, any_to}
 use Rattle.model.specs.Bits.{field}
-use Rattle.model.specs.Game.{Game, game_of, node_at, is_leaf, is_decision, is_chance, in_set, node_moves}
-use Rattle.model.specs.Sequences.{Sequence, own_sequence_of, same}
-use Rattle.model.specs.GameChecks.{is_move_count_of, path_limit, has_header_of, has_edition_of, game_length, has_length_of, padding_zero, records_well_formed, counts_positive_of, set_moves_in_range, payload_in_range, payloads_in_range_of, attached, nodes_attached_of, is_child, share_move, moves_lead_on_of, children_weight, weight_inherited, weight_shared, weights_obey_rules_of, depth_in, depth, paths_in_limit_of, sets_non_empty_of, recall_at, perfect_recall_of}
+use Rattle.model.specs.Game.{Game, edition_in, length_in, game_of, node_at, written_sequence, set_zeros, is_leaf, is_decision, is_chance, in_set, node_moves}
+use Rattle.model.specs.Sequences.{Sequence, own_sequence_of, same, leading_number}
+use Rattle.model.specs.GameChecks.{is_move_count_of, path_limit, has_header_of, has_edition_of, is_second, game_length, has_length_of, set_zeros_zero, padding_zero, records_well_formed, sequences_right_of, counts_positive_of, set_moves_in_range, payload_in_range, payloads_in_range_of, attached, nodes_attached_of, is_child, share_move, moves_lead_on_of, children_weight, weight_inherited, weight_shared, weights_obey_rules_of, depth_in, depth, paths_in_limit_of, sets_non_empty_of, recall_at, perfect_recall_of}
 use Rattle.model.specs.Reasons.{IsChildAt, PathTo, root, down}
 use Rattle.model.specs.Rules.{ExactlyOne}
 use Rattle.model.proofs.Bits.{field_fits}
 use Rattle.model.proofs.Sequences.{same→eq, eq→same}
 use Rattle.model.proofs.Tree.{leaf_moves}
-use Rattle.model.proofs.Decisions.{Decides, itself_iff, eqb_iff, ltb_iff, leb_iff, same_iff, and_iff, implies_iff, not_iff, all_iff, all_from_iff, all_and_iff, any_iff}
+use Rattle.model.proofs.Decisions.{Decides, itself_iff, eqb_iff, ltb_iff, leb_iff, same_iff, and_iff, or_iff, implies_iff, not_iff, all_iff, all_from_iff, all_and_iff, any_iff}
 
 -- "1 to 64"
 move_count_iff : (k : ℕ) → Decides (is_move_count_of k) ((1 ≤ k) × (k ≤ 64))
@@ -48,7 +49,7 @@ module _ (g : Game) where
   unfolding counts_positive_of
   counts_iff = and_iff (ltb_iff 0 g.nodes) (ltb_iff 0 g.root_weight)
 
-  -- check 5
+  -- check 5, its first half
   pub set_moves_iff : Decides (set_moves_in_range g) ((h : ℕ) → h < g.sets → (1 ≤ g.set_moves h) × (g.set_moves h ≤ 64))
   unfolding set_moves_in_range
   set_moves_iff = all_iff (λ h l. move_count_iff (g.set_moves h))
@@ -201,14 +202,29 @@ module _ (bytes : List ℕ) where
   header_iff = leb_iff 5 (length bytes)
 
   -- check 2
-  pub edition_iff : Decides (has_edition_of bytes) (field bytes 0 4 ≡ 1)
+  pub edition_iff : Decides (has_edition_of bytes) ((field bytes 0 4 ≡ 1) ⊎ (field bytes 0 4 ≡ 2))
   unfolding has_edition_of
-  edition_iff = eqb_iff (field bytes 0 4) 1
+  edition_iff = or_iff (eqb_iff (field bytes 0 4) 1) (eqb_iff (field bytes 0 4) 2)
+
+  -- the file is of edition 2
+  pub second_iff : Decides (is_second bytes) (field bytes 0 4 ≡ 2)
+  unfolding is_second
+  second_iff = eqb_iff (field bytes 0 4) 2
 
   -- check 4
-  pub length_iff : Decides (has_length_of bytes) (length bytes ≡ 5 + (game_of bytes).sets + 8 * (game_of bytes).nodes)
+  pub length_iff : Decides (has_length_of bytes) (length bytes ≡ length_in (edition_in bytes) (game_of bytes).sets (game_of bytes).nodes)
   unfolding has_length_of game_length
-  length_iff = eqb_iff (length bytes) (5 + (game_of bytes).sets + 8 * (game_of bytes).nodes)
+  length_iff = eqb_iff (length bytes) (length_in (edition_in bytes) (game_of bytes).sets (game_of bytes).nodes)
+
+  -- check 5, its second half
+  pub set_zeros_iff : Decides (set_zeros_zero bytes) (field bytes 0 4 ≡ 2 → (h : ℕ) → h < (game_of bytes).sets → set_zeros bytes h ≡ 0)
+  unfolding set_zeros_zero
+  set_zeros_iff = implies_iff second_iff (all_iff (λ h l. eqb_iff (set_zeros bytes h) 0))
+
+  -- check 22
+  pub set_sequences_iff : Decides (sequences_right_of bytes) (field bytes 0 4 ≡ 2 → (h : ℕ) → h < (game_of bytes).sets → written_sequence bytes h ≡ leading_number (game_of bytes) h)
+  unfolding sequences_right_of
+  set_sequences_iff = implies_iff second_iff (all_iff (λ h l. eqb_iff (written_sequence bytes h) (leading_number (game_of bytes) h)))
 
   -- a kind, of two bits, is not 3 exactly where it is below 3
   kind_iff : (n : ℕ) → Decides (not (eqb ((game_of bytes).kind n) 3)) ((game_of bytes).kind n < 3)

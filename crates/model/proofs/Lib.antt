@@ -14,6 +14,7 @@ pub mod Demand2
 pub mod Demand3
 pub mod Duality
 pub mod Earnings
+pub mod Editions
 pub mod Exported
 pub mod FieldRules
 pub mod Flow
@@ -51,6 +52,7 @@ pub mod Tolerance
 pub mod Tree
 pub mod Verdict
 pub mod WorkedCalls
+pub mod WorkedEditions
 pub mod WorthBounds
 pub mod Worths
 pub mod Calls

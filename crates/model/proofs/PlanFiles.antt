@@ -88,9 +88,9 @@ module _ (g : Game) (R : GameRules g) (q : PlanPair) (F : (p : Player) → Fits 
       ∙ own_weight p h m o
 
   -- so every sequence has its weight
-  written_sequence : (p : Player) (s : Sequence) → IsSequence g p s → sequence_weight (plan_pair_of g (plan_file_of g q) p) s ≡ sequence_weight (q p) s
-  written_sequence p s empty = weight_empty (plan_pair_of g (plan_file_of g q) p) ∙ written_denominator p ∙ sym (weight_empty (q p))
-  written_sequence p s (after {h = h} {m = m} l o v) =
+  written_sequence_lem : (p : Player) (s : Sequence) → IsSequence g p s → sequence_weight (plan_pair_of g (plan_file_of g q) p) s ≡ sequence_weight (q p) s
+  written_sequence_lem p s empty = weight_empty (plan_pair_of g (plan_file_of g q) p) ∙ written_denominator p ∙ sym (weight_empty (q p))
+  written_sequence_lem p s (after {h = h} {m = m} l o v) =
       weight_extended (plan_pair_of g (plan_file_of g q) p) (leading g h) h m ∙ written_weight p h m l o v ∙ sym (weight_extended (q p) (leading g h) h m)
 
   -- and the file obeys every rule
@@ -106,5 +106,5 @@ module _ (g : Game) (R : GameRules g) (q : PlanPair) (F : (p : Player) → Fits 
         denominators = λ p. rw (written_denominator p) (some p);
         header_zeros = held.1.1.1.0;
         filling_zeros = λ i l v. written_filling d1 d2 weights weights_fit i (omega (arith, count)) v;
-        fit = λ p h l o. count_cong (g.set_moves h) _ _ (λ m v. written_weight p h m l o v) ∙ F p h l o ∙ sym (written_sequence p (leading g h) (leading_sequence g R p h l o));
+        fit = λ p h l o. count_cong (g.set_moves h) _ _ (λ m v. written_weight p h m l o v) ∙ F p h l o ∙ sym (written_sequence_lem p (leading g h) (leading_sequence g R p h l o));
       }

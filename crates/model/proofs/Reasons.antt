@@ -9,17 +9,17 @@ use lib.Dec.{T, ltb}
 use lib.ListN.{length}
 use Rattle.algebra.specs.Bounded.{all_to, any_to, total_to}
 use Rattle.model.specs.Bits.{field}
-use Rattle.model.specs.Game.{Game, game_of, node_at, Player, one, two, owns, in_set, node_moves}
-use Rattle.model.specs.Sequences.{own_sequence_of, leading}
-use Rattle.model.specs.GameChecks.{is_move_count_of, path_limit, has_header_of, has_edition_of, game_length, has_length_of, padding_zero, records_well_formed, counts_positive_of, set_moves_in_range, payload_in_range, payloads_in_range_of, attached, nodes_attached_of, is_child, share_move, moves_lead_on_of, children_weight, weight_inherited, weight_shared, weights_obey_rules_of, depth_in, depth, paths_in_limit_of, sets_non_empty_of, recall_at, perfect_recall_of}
+use Rattle.model.specs.Game.{Game, edition_in, length_in, game_of, node_at, written_sequence, set_zeros, Player, one, two, owns, in_set, node_moves}
+use Rattle.model.specs.Sequences.{own_sequence_of, leading, leading_number}
+use Rattle.model.specs.GameChecks.{is_move_count_of, path_limit, has_header_of, has_edition_of, game_length, has_length_of, set_zeros_zero, padding_zero, records_well_formed, sequences_right_of, counts_positive_of, set_moves_in_range, payload_in_range, payloads_in_range_of, attached, nodes_attached_of, is_child, share_move, moves_lead_on_of, children_weight, weight_inherited, weight_shared, weights_obey_rules_of, depth_in, depth, paths_in_limit_of, sets_non_empty_of, recall_at, perfect_recall_of}
 use Rattle.model.specs.Plan.{PlanPair, sequence_weight, balanced, fits, pair_fits_of, plan_moves, plan_pair_of}
 use Rattle.model.specs.PlanChecks.{Files, plan_length, plan_has_length, filling, plan_well_formed}
 use Rattle.model.specs.Call.{long_enough, Shorter}
-use Rattle.model.specs.Reasons.{PathTo, NoMoveCount, PaddingSpoilt, PayloadOutside, Misplaced, ShareMove, LeadsNowhere, NotInherited, WeightWrong, BreaksRecall, Unbalanced, PlanIllFormed}
-use Rattle.model.proofs.Decisions.{Fails, itself_iff, eqb_iff, ltb_iff, and_iff, any_iff, no_fails, same_fails, eqb_fails, leb_fails, ltb_fails, not_fails, and_fails, implies_fails, all_fails}
+use Rattle.model.specs.Reasons.{PathTo, NoMoveCount, SetZerosSpoilt, SequenceWrong, PaddingSpoilt, PayloadOutside, Misplaced, ShareMove, LeadsNowhere, NotInherited, WeightWrong, BreaksRecall, Unbalanced, PlanIllFormed}
+use Rattle.model.proofs.Decisions.{Fails, itself_iff, eqb_iff, ltb_iff, and_iff, any_iff, no_fails, same_fails, eqb_fails, leb_fails, ltb_fails, not_fails, and_fails, or_fails, implies_fails, all_fails}
 use Rattle.model.proofs.Rows.{Sound}
 use Rattle.model.specs.Checks.{header_rows, record_rows, tree_rows, game_rows, plan_rows}
-use Rattle.model.proofs.GameRules.{leaf_iff, decision_iff, chance_iff, child_iff, sequences_iff, attached_iff, counts_iff, path_depth, some_path}
+use Rattle.model.proofs.GameRules.{leaf_iff, decision_iff, chance_iff, child_iff, sequences_iff, second_iff, attached_iff, counts_iff, path_depth, some_path}
 
 -- three alternatives, regrouped
 to_right : {P Q S : Type 0} → (P ⊎ Q) ⊎ S → P ⊎ Q ⊎ S
@@ -47,7 +47,7 @@ module _ (g : Game) where
   unfolding counts_positive_of
   counts_fails = and_fails (zero_fails g.nodes) (zero_fails g.root_weight)
 
-  -- check 5
+  -- check 5, its first half
   set_moves_fails : Fails (set_moves_in_range g) ((h : ℕ) × (h < g.sets) × NoMoveCount (g.set_moves h))
   unfolding set_moves_in_range
   set_moves_fails = all_fails g.sets (λ h l. move_count_fails (g.set_moves h))
@@ -142,6 +142,16 @@ module _ (bytes : List ℕ) where
       and_fails (not_fails (eqb_iff (g.kind n) 3))
       (and_fails (implies_fails (decision_iff g n) (eqb_fails (field bytes (node_at bytes n + 44) 20) 0)) (implies_fails (chance_iff g n) (eqb_fails (field bytes (node_at bytes n + 39) 25) 0))))
 
+  -- check 5, its second half
+  set_zeros_fails : Fails (set_zeros_zero bytes) (SetZerosSpoilt bytes)
+  unfolding set_zeros_zero
+  set_zeros_fails = implies_fails (second_iff bytes) (all_fails (game_of bytes).sets (λ h l. eqb_fails (set_zeros bytes h) 0))
+
+  -- check 22
+  set_sequences_fails : Fails (sequences_right_of bytes) (SequenceWrong bytes)
+  unfolding sequences_right_of
+  set_sequences_fails = implies_fails (second_iff bytes) (all_fails (game_of bytes).sets (λ h l. eqb_fails (written_sequence bytes h) (leading_number (game_of bytes) h)))
+
   -- each check of a game file against its refusal
   pub game_sound : Sound game_rows bytes
   unfolding game_rows header_rows record_rows tree_rows has_header_of has_edition_of has_length_of game_length
@@ -149,13 +159,13 @@ module _ (bytes : List ℕ) where
       let g = game_of bytes in (
         leb_fails 5 (length bytes),
         λ t1. (
-          eqb_fails (field bytes 0 4) 1,
+          or_fails (eqb_fails (field bytes 0 4) 1) (eqb_fails (field bytes 0 4) 2),
           λ t2. (
             counts_fails g,
             λ t3. (
-              eqb_fails (length bytes) (5 + g.sets + 8 * g.nodes),
+              eqb_fails (length bytes) (length_in (edition_in bytes) g.sets g.nodes),
               λ t4. (
-                set_moves_fails g,
+                and_fails (set_moves_fails g) set_zeros_fails,
                 λ t5. (
                   records_fails,
                   λ t6. (
@@ -170,8 +180,11 @@ module _ (bytes : List ℕ) where
                             paths_fails g (λ n l. (((attached_iff g ((counts_iff g).holds t3).0).holds t8).1 n l).0),
                             λ t11. (
                               set_node_fails g,
-                              λ t12.
-                                  (recall_fails g, λ t13. tt),
+                              λ t12. (
+                                recall_fails g,
+                                λ t13.
+                                    (set_sequences_fails, λ t22. tt),
+                              ),
                             ),
                           ),
                         ),

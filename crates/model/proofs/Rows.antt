@@ -201,7 +201,7 @@ lacks k [] = true
 lacks k (r ∷ rows) = not (eqb r.number k) && lacks k rows
 
 -- then it is not the refusal
-refusal_other : {A : Type 0} (rows : Rows A) (a : A) (k : ℕ) → ¬ (k ≡ 0) → T (lacks k rows) → ¬ (refusal rows a ≡ k)
+pub refusal_other : {A : Type 0} (rows : Rows A) (a : A) (k : ℕ) → ¬ (k ≡ 0) → T (lacks k rows) → ¬ (refusal rows a ≡ k)
 unfolding refusal
 refusal_other [] a k some t = λ e. some (sym e)
 refusal_other (r ∷ rows) a k some t =

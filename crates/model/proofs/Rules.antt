@@ -1,16 +1,18 @@
 -- Fields that the writers take are those that fit, clause by clause.
 use Prim.Native.Nat.{ℕ, zero, suc, ◌*◌, ◌<◌}
-use mathlib.Core.Path.{◌≡◌, refl}
+use mathlib.Core.Path.{◌≡◌, refl, subst}
+use mathlib.Core.List.{List}
 use native.Mathlib.Omega.{arith}
 use lib.Dec.{leb→le, le→leb, ltb→lt, lt→ltb}
-use lib.ListN.{get_or}
+use lib.ListN.{length, get_or}
 use lib.IntN.{ℤ, pos, negsuc, neg_ℤ}
 use lib.Signed.{◌≤ℤ◌}
 use Rattle.algebra.specs.Arrays.{item}
-use Rattle.model.specs.Writing.{GameFields, fits_signed_of, set_count, node_count, game_fields_fit, plan_fields_fit, PlanFields}
-use Rattle.model.specs.Rules.{FieldsFit, PlanFieldsFit}
+use Rattle.model.specs.Game.{Edition, edition1, edition2}
+use Rattle.model.specs.Writing.{GameFields, FileFields, file_fields_fit, fits_signed_of, set_count, node_count, game_fields_fit, plan_fields_fit, PlanFields}
+use Rattle.model.specs.Rules.{FitField, FieldsFit, FileFieldsFit, PlanFieldsFit}
 use Rattle.model.proofs.Decisions.{Decides, same_iff}
-use Rattle.model.proofs.FieldRules.{InRange, Lacks, kind_below, FieldRules, game_fields_iff, plan_fields_iff}
+use Rattle.model.proofs.FieldRules.{InRange, Lacks, kind_below, FieldRules, SequenceRules, game_fields_iff, file_fields_iff, plan_fields_iff}
 
 -- "-32,768 to 32,767"
 in_range_lem : (z : ℤ) → InRange 16 z → (neg_ℤ (pos 32768) ≤ℤ z) × (z ≤ℤ pos 32767)
@@ -90,9 +92,38 @@ module _ (t : GameFields) where
     kinds = λ n l. lacks (item t.kinds n) n (f.kinds n l) (f.only_decisions n l, f.only_chance n l, f.only_leaves n l);
   }
 
-  -- check 17 of the game writer
+  -- check 17 of the fields of a game
   pub fields_fit_iff : Decides (game_fields_fit t) (FieldsFit t)
   fields_fit_iff = same_iff fits fitting (game_fields_iff t)
+
+-- what is asked of the own sequence numbers in edition 2 alone
+abbrev InSecond : Edition → Type 0 → Type 0
+InSecond e P = e ≡ edition2 → P
+
+first_second : {A : Type 0} → edition1 ≡ edition2 → A
+first_second {A = A} e = absurd (subst (λ (x : Edition). Told x) e tt)
+  where
+    Told : Edition → Type 0
+    Told edition1 = Unit {0}
+    Told edition2 = ⊥
+
+sequences_told : (e : Edition) (sets : ℕ) (l : List ℕ) → SequenceRules e sets l → InSecond e (FitField 12 l) × InSecond e (length l ≡ sets)
+sequences_told edition1 sets l rules = (first_second, first_second)
+sequences_told edition2 sets l rules = (λ e. rules.1, λ e. rules.0)
+
+sequences_ruled : (e : Edition) (sets : ℕ) (l : List ℕ) → InSecond e (FitField 12 l) × InSecond e (length l ≡ sets) → SequenceRules e sets l
+sequences_ruled edition1 sets l told = tt
+sequences_ruled edition2 sets l told = (told.1 refl, told.0 refl)
+
+-- check 17 of the game writers
+pub file_fields_fit_iff : (t : FileFields) → Decides (file_fields_fit t) (FileFieldsFit t)
+unfolding set_count
+file_fields_fit_iff t =
+    let sets = set_count t.fields in
+    same_iff
+    (λ h. let told = sequences_told t.edition sets t.sequences h.1 in record { fields = fits t.fields h.0; sequences = told.0; sequences_beside = told.1 })
+    (λ f. (fitting t.fields f.fields, sequences_ruled t.edition sets t.sequences (f.sequences, f.sequences_beside)))
+    (file_fields_iff t)
 
 -- check 17 of the plan writer
 pub plan_fields_fit_iff : (t : PlanFields) → Decides (plan_fields_fit t.d1 t.d2 t.weights) (PlanFieldsFit t)

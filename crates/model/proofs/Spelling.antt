@@ -129,7 +129,7 @@ Holds bytes at offset [] = Unit {0}
 Holds bytes at offset (c ∷ cells) = (field bytes (after at offset) c.0 ≡ c.1) × Holds bytes at (offset + c.0) cells
 
 -- so many bits after, as a sum
-after_is : (at offset : ℕ) → after at offset ≡ at + offset
+pub after_is : (at offset : ℕ) → after at offset ≡ at + offset
 after_is at zero = omega arith
 after_is at (suc offset) = refl
 

@@ -1,11 +1,10 @@
--- Document 01, "Why a file is sent back": checks 1 to 16, row by row, and the refusal of a file.
-use Rattle.std.specs.Prelude.{ℕ, ◌+◌, ◌*◌, ◌/◌, ◌<◌, ◌≡◌, ◌⊎◌, List, [], ◌∷◌, ◌++◌, length, T}
-use Rattle.model.specs.Bits.{field}
-use Rattle.model.specs.Game.{game_of, Player, in_set}
-use Rattle.model.specs.GameChecks.{has_header_of, has_edition_of, counts_positive_of, has_length_of, set_moves_in_range, records_well_formed, payloads_in_range_of, nodes_attached_of, moves_lead_on_of, weights_obey_rules_of, paths_in_limit_of, sets_non_empty_of, perfect_recall_of}
+-- Document 01, "Why a file is sent back", and document 02, W-204: checks 1 to 16 and 22, row by row, and the refusal of a file.
+use Rattle.std.specs.Prelude.{ℕ, ◌+◌, ◌*◌, ◌/◌, ◌<◌, ◌≡◌, ◌⊎◌, ◌&&◌, List, [], ◌∷◌, ◌++◌, length, T}
+use Rattle.model.specs.Game.{edition_in, length_in, game_of, Player, in_set}
+use Rattle.model.specs.GameChecks.{has_header_of, has_edition_of, counts_positive_of, has_length_of, set_moves_in_range, set_zeros_zero, records_well_formed, payloads_in_range_of, nodes_attached_of, moves_lead_on_of, weights_obey_rules_of, paths_in_limit_of, sets_non_empty_of, perfect_recall_of, sequences_right_of}
 use Rattle.model.specs.Plan.{weight_width, plan_moves, plan_pair_of, pair_fits_of}
 use Rattle.model.specs.PlanChecks.{Files, files, plan_has_length, plan_well_formed}
-use Rattle.model.specs.Reasons.{PathTo, NoMoveCount, PaddingSpoilt, PayloadOutside, Misplaced, ShareMove, LeadsNowhere, WeightWrong, BreaksRecall, Unbalanced, PlanIllFormed}
+use Rattle.model.specs.Reasons.{PathTo, NoMoveCount, NoEdition, SetZerosSpoilt, SequenceWrong, PaddingSpoilt, PayloadOutside, Misplaced, ShareMove, LeadsNowhere, WeightWrong, BreaksRecall, Unbalanced, PlanIllFormed}
 use Rattle.model.specs.Rows.{Rows, row, of, refusal}
 
 -- 1 to 4: the header and the length
@@ -13,19 +12,19 @@ unfoldable pub header_rows : Rows (List ℕ)
 header_rows =
     -- "The game file is shorter than 5 bytes."
     row 1 has_header_of (λ b. length b < 5)
-    -- "Its edition is not 1."
-    ∷ row 2 has_edition_of (λ b. ¬ (field b 0 4 ≡ 1))
+    -- "Its edition is not 1."; W-204: "refusal 2 now means neither edition"
+    ∷ row 2 has_edition_of NoEdition
     -- "N or D0 is zero."
     ∷ row 3 (λ b. counts_positive_of (game_of b)) (λ b. ((game_of b).nodes ≡ 0) ⊎ ((game_of b).root_weight ≡ 0))
-    -- "The length is not 5 + H + 8N."
-    ∷ row 4 has_length_of (λ b. ¬ (length b ≡ 5 + (game_of b).sets + 8 * (game_of b).nodes))
+    -- "The length is not 5 + H + 8N."; W-204: "refusal 4 uses the edition's length"
+    ∷ row 4 has_length_of (λ b. ¬ (length b ≡ length_in (edition_in b) (game_of b).sets (game_of b).nodes))
     ∷ []
 
 -- 5 to 8: each set entry and each node record
 unfoldable pub record_rows : Rows (List ℕ)
 record_rows =
-    -- "A set entry's move count is outside 1 to 64."
-    row 5 (λ b. set_moves_in_range (game_of b)) (λ b. (h : ℕ) × (h < (game_of b).sets) × NoMoveCount ((game_of b).set_moves h))
+    -- "A set entry's move count is outside 1 to 64."; W-204: "a set zero bit that is one gives 5"
+    row 5 (λ b. set_moves_in_range (game_of b) && set_zeros_zero b) (λ b. ((h : ℕ) × (h < (game_of b).sets) × NoMoveCount ((game_of b).set_moves h)) ⊎ SetZerosSpoilt b)
     -- "A node's kind is 3, or a payload bit that must be zero is one."
     ∷ row 6 records_well_formed (λ b. (n : ℕ) × (n < (game_of b).nodes) × (((game_of b).kind n ≡ 3) ⊎ PaddingSpoilt b n))
     -- "A decision's set number is not below H, or a chance node's move count is outside 1 to 64."
@@ -34,7 +33,7 @@ record_rows =
     ∷ row 8 (λ b. nodes_attached_of (game_of b)) (λ b. (n : ℕ) × (n < (game_of b).nodes) × Misplaced (game_of b) n)
     ∷ []
 
--- 9 to 13: the tree and the sets
+-- 9 to 13, and 22 "directly after 13": the tree and the sets
 unfoldable pub tree_rows : Rows (List ℕ)
 tree_rows =
     -- "Two nodes other than the root share parent and move, or some move of an inner node has no node."
@@ -47,9 +46,11 @@ tree_rows =
     ∷ row 12 (λ b. sets_non_empty_of (game_of b)) (λ b. (h : ℕ) × (h < (game_of b).sets) × ((n : ℕ) → n < (game_of b).nodes → ¬ T (in_set (game_of b) h n)))
     -- "A set breaks perfect recall."
     ∷ row 13 (λ b. perfect_recall_of (game_of b)) (λ b. (h : ℕ) × (n : ℕ) × (m : ℕ) × BreaksRecall (game_of b) h n m)
+    -- W-204: "a written sequence that is not the one the tree gives"
+    ∷ row 22 sequences_right_of SequenceWrong
     ∷ []
 
--- 1 to 13
+-- 1 to 13, and 22
 unfoldable pub game_rows : Rows (List ℕ)
 game_rows = header_rows ++ record_rows ++ tree_rows
 
@@ -64,7 +65,7 @@ plan_rows =
     ∷ row 16 (λ f. pair_fits_of (game_of f.game) (plan_pair_of (game_of f.game) f.plan)) (λ f. (p : Player) × (h : ℕ) × Unbalanced (game_of f.game) (plan_pair_of (game_of f.game) f.plan) p h)
     ∷ []
 
--- 1 to 16: the game's come first
+-- 1 to 13, 22, and 14 to 16: the game's come first
 unfoldable pub pair_rows : Rows Files
 pair_rows = of (λ f. f.game) game_rows ++ plan_rows
 

@@ -1,7 +1,7 @@
 -- Demand 1, call by call: what is good is taken, and any other input gets the first refusal that applies.
 use Rattle.std.specs.Prelude.{ℕ, ◌<◌, ◌≡◌, List}
 use Rattle.model.specs.Game.{Game, game_of}
-use Rattle.model.specs.Rules.{GameFile, GoodFiles, FieldsFit, PlanFieldsFit}
+use Rattle.model.specs.Rules.{GameFile, GoodFiles, FileFieldsFit, PlanFieldsFit}
 use Rattle.model.specs.Writing.{game_bytes}
 use Rattle.model.specs.Rows.{First}
 use Rattle.model.specs.Call.{given, refused, Buffers, lengths, RoomFor, after_all, Call, outcome, all_rows, run}
@@ -10,6 +10,7 @@ use Rattle.model.specs.Calls.CheckGame as CheckGame
 use Rattle.model.specs.Calls.SetEntry as SetEntry
 use Rattle.model.specs.Calls.NodeRecord as NodeRecord
 use Rattle.model.specs.Calls.OwnSequence as OwnSequence
+use Rattle.model.specs.Calls.OwnSequences as OwnSequences
 use Rattle.model.specs.Calls.GameFields as GameFields
 use Rattle.model.specs.Calls.CheckPlan as CheckPlan
 use Rattle.model.specs.Calls.PlanFields as PlanFields
@@ -22,7 +23,9 @@ use Rattle.model.specs.Calls.WriteGame as WriteGame
 use Rattle.model.specs.Calls.WritePlan as WritePlan
 use Rattle.model.specs.Calls.RewriteGame as RewriteGame
 use Rattle.model.specs.Calls.RewritePlan as RewritePlan
+use Rattle.model.specs.Calls.OtherEdition as OtherEdition
 use Rattle.model.specs.Calls.RereadGame as RereadGame
+use Rattle.model.specs.Calls.RereadSequences as RereadSequences
 use Rattle.model.specs.Calls.RereadPlan as RereadPlan
 use Rattle.model.specs.Calls.PlanFromSheet as PlanFromSheet
 use Rattle.model.specs.Calls.SheetFromPlan as SheetFromPlan
@@ -44,6 +47,7 @@ pub record Demand1 : Type 0 where
   pub set_entry_lem : Clause SetEntry.call (InGame (λ g. g.sets))
   pub node_record_lem : Clause NodeRecord.call (InGame (λ g. g.nodes))
   pub own_sequence_lem : Clause OwnSequence.call (InGame (λ g. g.sets))
+  pub own_sequences_lem : Clause OwnSequences.call GameFile
   pub game_fields_lem : Clause GameFields.call GameFile
   pub check_plan_lem : Clause CheckPlan.call GoodFiles
   pub plan_fields_lem : Clause PlanFields.call GoodFiles
@@ -53,11 +57,13 @@ pub record Demand1 : Type 0 where
   pub verdict : Clause Verdict.call GoodFiles
   pub report : Clause Report.call GoodFiles
   pub refusal_line_lem : Clause RefusalLine.call (λ number. Unit {0})
-  pub write_game_lem : Clause WriteGame.call FieldsFit
+  pub write_game_lem : Clause WriteGame.call FileFieldsFit
   pub write_plan_lem : Clause WritePlan.call PlanFieldsFit
   pub rewrite_game_lem : Clause RewriteGame.call GameFile
+  pub other_edition_lem : Clause OtherEdition.call GameFile
   pub rewrite_plan_lem : Clause RewritePlan.call GoodFiles
-  pub reread_game_lem : Clause RereadGame.call (λ t. FieldsFit t × GameFile (game_bytes t))
+  pub reread_game_lem : Clause RereadGame.call (λ t. FileFieldsFit t × GameFile (game_bytes t))
+  pub reread_sequences_lem : Clause RereadSequences.call (λ t. FileFieldsFit t × GameFile (game_bytes t))
   pub reread_plan_lem : Clause RereadPlan.call (λ t. PlanFieldsFit t.fields × GoodFiles (RereadPlan.files_of t))
   pub plan_from_sheet_lem : (width limit : ℕ) → Clause (PlanFromSheet.call width limit) (PlanFromSheet.GoodSheet width limit)
   pub sheet_from_plan_lem : (width : ℕ) → Clause (SheetFromPlan.call width) GoodFiles

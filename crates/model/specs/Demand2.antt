@@ -1,7 +1,7 @@
 -- Demand 2: the sequence form of accepted files, as equations and as calls give it; Theorem 2.66; and the round trips of the two files.
-use Rattle.std.specs.Prelude.{ℕ, suc, ◌*◌, ◌<◌, pred, ◌≡◌, ◌⊎◌, ◌↔◌, cond, List, [], ◌∷◌, length, get_or, T, ℤ, pos, ◌+ℤ◌, ◌*ℤ◌}
+use Rattle.std.specs.Prelude.{ℕ, suc, ◌*◌, ◌≤◌, ◌<◌, pred, ◌≡◌, ◌⊎◌, ◌↔◌, cond, List, [], ◌∷◌, length, get_or, take, T, ℤ, pos, ◌+ℤ◌, ◌*ℤ◌}
 use Rattle.algebra.specs.Bounded.{sum_where, max_through, join_to, list_to}
-use Rattle.model.specs.Game.{Game, game_of, Player, one, two, other, owns, in_set, is_leaf}
+use Rattle.model.specs.Game.{Game, game_of, edition_in, Player, one, two, other, owns, in_set, is_leaf}
 use Rattle.model.specs.Sequences.{Sequence, extended, acts, own_sequence_of, leading, leading_number, sequence_count}
 use Rattle.model.specs.Plan.{RealizationPlan, PlanPair, sequence_weight, Fits, plan_pair_of, plan_weights}
 use Rattle.model.specs.PlanChecks.{files}
@@ -9,18 +9,25 @@ use Rattle.model.specs.Table.{TableRow, own_number, pair_sum, payoff_table}
 use Rattle.model.specs.Earnings.{◌over◌, AtMost, PureStrategy, MixedStrategy, listed, IsPure, IsMixed, pure_earnings, mixed_earnings, plan_earnings, base_of, value_count, value}
 use Rattle.model.specs.BestResponse.{leads_to, leaves_worth, worth, set_worth, best_count, best_value, best_response}
 use Rattle.model.specs.Writing as Writing
-use Rattle.model.specs.Writing.{GameFields, fields_of, game_bytes, plan_bytes}
-use Rattle.model.specs.Rules.{GameFile, GoodFiles, FieldsFit, PlanFieldsFit}
-use Rattle.model.specs.Call.{given, Buffers, Outcome}
+use Rattle.model.specs.Writing.{GameFields, FileFields, fields2, file_fields_of, game_bytes, other_edition_of, other_file, plan_bytes}
+use Rattle.model.specs.Rules.{GameFile, GoodFiles, FileFieldsFit, PlanFieldsFit}
+use Rattle.model.specs.Call.{given, Buffers, Outcome, run}
+use Rattle.model.specs.Exported.{Exported}
 use Rattle.model.specs.Calls.OwnSequence as OwnSequence
 use Rattle.model.specs.Calls.Values.{PairValues, values_call}
+use Rattle.model.specs.Calls.OwnSequences.{own_sequences_of}
+use Rattle.model.specs.Calls.CheckPlan.{check_plan_of}
+use Rattle.model.specs.Calls.PayoffTable as PayoffTable
+use Rattle.model.specs.Calls.Verdict.{verdict_call}
 use Rattle.model.specs.Calls.GameFields.{shape, game_fields_of}
 use Rattle.model.specs.Calls.PlanFields.{plan_fields_of}
-use Rattle.model.specs.Calls.WriteGame.{write_game_of}
+use Rattle.model.specs.Calls.WriteGame.{write_file}
 use Rattle.model.specs.Calls.WritePlan.{write_plan_of}
 use Rattle.model.specs.Calls.RewriteGame.{rewrite_game_of}
+use Rattle.model.specs.Calls.OtherEdition as Turned
 use Rattle.model.specs.Calls.RewritePlan.{rewrite_plan_of}
-use Rattle.model.specs.Calls.RereadGame.{reread_game_of}
+use Rattle.model.specs.Calls.RereadGame as RereadGame
+use Rattle.model.specs.Calls.RereadSequences.{reread_sequences_of}
 use Rattle.model.specs.Calls.RereadPlan.{reread_plan_of}
 use Rattle.model.specs.Prices.{Theorem266}
 
@@ -133,12 +140,42 @@ IsBytes bytes = (i : ℕ) → get_or bytes i 0 < 256
 -- What is written is read, and what is read is written again. On the right of each equation is a call that gives, by its definition,
 -- the file's own bytes or the very fields that were given.
 pub record RoundTrips : Type 0 where
-  -- "Writing the fields of an accepted file gives its bytes again"
-  pub game_file_lem : (game out : List ℕ) → IsBytes game → GameFile game → write_game_of (fields_of (game_of game)) out ≡ rewrite_game_of game out
+  -- "Writing the fields of an accepted file gives its bytes again", in its edition, with the own sequence numbers that the tree gives
+  pub game_file_lem : (game out : List ℕ) → IsBytes game → GameFile game → write_file (file_fields_of (edition_in game) (game_of game)) out ≡ rewrite_game_of game out
   pub plan_file : (game plan out : List ℕ) → IsBytes plan → GoodFiles (files game plan) → let g = game_of game in let q = plan_pair_of g plan in write_plan_of (q one).denominator (q two).denominator (plan_weights g plan) out ≡ rewrite_plan_of game plan out
   -- "fields whose written file is accepted are read back as they were given"
-  pub game_fields_lem : (t : GameFields) (buffers : Buffers shape) → FieldsFit t → GameFile (game_bytes t) → game_fields_of (game_bytes t) buffers ≡ reread_game_of t buffers
+  pub game_fields_lem : (t : FileFields) (buffers : Buffers shape) → FileFieldsFit t → GameFile (game_bytes t) → game_fields_of (game_bytes t) buffers ≡ run RereadGame.call t buffers
+  pub own_sequences_lem : (t : GameFields) (sequences out : List ℕ) → FileFieldsFit (fields2 t sequences) → GameFile (game_bytes (fields2 t sequences)) → own_sequences_of (game_bytes (fields2 t sequences)) out ≡ reread_sequences_of t sequences out
   pub plan_fields_lem : (game : List ℕ) (d1 d2 : ℕ) (w out : List ℕ) → PlanFieldsFit (Writing.plan_fields_of d1 d2 w) → GoodFiles (files game (plan_bytes d1 d2 w)) → plan_fields_of game (plan_bytes d1 d2 w) out ≡ reread_plan_of game d1 d2 w out
+
+-- W-204, of an accepted game file: this file is it in the other edition.
+pub record OtherEdition (game file : List ℕ) : Type 0 where
+  -- an accepted file of the other edition
+  pub edition : edition_in file ≡ other_edition_of (edition_in game)
+  pub good : GameFile file
+  -- it holds the same game, and so all that is said of a game is the same of both
+  pub same_game : game_of file ≡ game_of game
+  -- "A pair's verdict is the same over both.": calls answer the same for either file and any plan, refused ones among them
+  pub same_verdict : (plan out : List ℕ) → verdict_call file plan out ≡ verdict_call game plan out
+  pub same_values : (plan : List ℕ) → values_call file plan ≡ values_call game plan
+  pub same_plan : (plan : List ℕ) → check_plan_of file plan ≡ check_plan_of game plan
+  pub same_table : (buffers : Buffers PayoffTable.shape) → PayoffTable.payoff_columns file buffers ≡ PayoffTable.payoff_columns game buffers
+  -- "Turning an accepted file of either edition into the other and back gives the same bytes."
+  pub back : IsBytes game → other_file file ≡ game
+
+-- what the call that turns a file gives for an accepted one, with a buffer that is long enough
+abbrev pub GivesOther : (game out : List ℕ) → Outcome (ℕ ∷ []) ℕ → Type 0
+GivesOther game out o =
+    GameFile game
+    → length (other_file game) ≤ length out
+    → (size : ℕ) × (o.answer ≡ given size) × OtherEdition game (take size o.buffers.0)
+
+-- the same of an exported outcome, whose number is the file's length
+abbrev pub GivesOtherIn : (game out : List ℕ) → Exported (ℕ ∷ []) ℕ → Type 0
+GivesOtherIn game out x =
+    GameFile game
+    → length (other_file game) ≤ length out
+    → (x.refusal ≡ 0) × OtherEdition game (take x.numbers x.buffers.0)
 
 pub record Demand2 : Type 0 where
   -- "Own sequences, perfect recall, payoff table, plan, value and best value are those of the sequence form of extensive games"
@@ -151,3 +188,6 @@ pub record Demand2 : Type 0 where
   pub theorem266 : Theorem266
   -- files and fields, there and back
   pub trips : RoundTrips
+  -- the two editions
+  pub editions : (game : List ℕ) → GameFile game → OtherEdition game (other_file game)
+  pub other_edition_lem : (game out : List ℕ) → GivesOther game out (Turned.other_edition_of game out)

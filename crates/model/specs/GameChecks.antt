@@ -1,9 +1,9 @@
--- Document 01, "Why a file is sent back": checks 1 to 13 of a game file. Each test says what must hold.
-use Rattle.std.specs.Prelude.{ℕ, zero, suc, ◌+◌, ◌*◌, Bool, ◌&&◌, not, cond, List, length, eqb, ltb, leb}
+-- Document 01, "Why a file is sent back", and document 02, W-204: checks 1 to 13 and 22 of a game file. Each test says what must hold.
+use Rattle.std.specs.Prelude.{ℕ, zero, suc, ◌+◌, Bool, ◌&&◌, ◌||◌, not, cond, List, length, eqb, ltb, leb}
 use Rattle.algebra.specs.Bounded.{total_to, all_to, any_to, implies}
 use Rattle.model.specs.Bits.{field}
-use Rattle.model.specs.Game.{Game, game_of, node_at, is_leaf, is_decision, is_chance, in_set, node_moves}
-use Rattle.model.specs.Sequences.{own_sequence_of, same}
+use Rattle.model.specs.Game.{Game, edition_in, length_in, game_of, node_at, written_sequence, set_zeros, is_leaf, is_decision, is_chance, in_set, node_moves}
+use Rattle.model.specs.Sequences.{own_sequence_of, same, leading_number}
 
 -- "1 to 64"
 unfoldable pub is_move_count_of : ℕ → Bool
@@ -18,17 +18,25 @@ module _ (bytes : List ℕ) where
   unfoldable pub has_header_of : Bool
   has_header_of = leb 5 (length bytes)
 
-  -- 2: "Its edition is not 1."
+  -- 2: "Its edition is not 1."; W-204: "refusal 2 now means neither edition"
   unfoldable pub has_edition_of : Bool
-  has_edition_of = eqb (field bytes 0 4) 1
+  has_edition_of = eqb (field bytes 0 4) 1 || eqb (field bytes 0 4) 2
 
-  -- "5 + H + 8N bytes"
+  -- the file is of edition 2
+  unfoldable pub is_second : Bool
+  is_second = eqb (field bytes 0 4) 2
+
+  -- the length that the file's edition has for its counts
   unfoldable pub game_length : ℕ
-  game_length = 5 + (game_of bytes).sets + 8 * (game_of bytes).nodes
+  game_length = length_in (edition_in bytes) (game_of bytes).sets (game_of bytes).nodes
 
-  -- 4: "The length is not 5 + H + 8N."
+  -- 4: "The length is not 5 + H + 8N."; W-204: "refusal 4 uses the edition's length"
   unfoldable pub has_length_of : Bool
   has_length_of = eqb (length bytes) game_length
+
+  -- 5, its second half: "a set zero bit that is one gives 5". Edition 1 has none.
+  unfoldable pub set_zeros_zero : Bool
+  set_zeros_zero = implies is_second (all_to (game_of bytes).sets (λ h. eqb (set_zeros bytes h) 0))
 
   -- "A decision's is its set number (12), then zeros. A chance node's is its move count (7 bits, 1 to 64), then zeros."
   unfoldable pub padding_zero : ℕ → Bool
@@ -40,12 +48,16 @@ module _ (bytes : List ℕ) where
   unfoldable pub records_well_formed : Bool
   records_well_formed = all_to (game_of bytes).nodes (λ n. not (eqb ((game_of bytes).kind n) 3) && padding_zero n)
 
+  -- 22: "a written sequence that is not the one the tree gives". Edition 1 writes none.
+  unfoldable pub sequences_right_of : Bool
+  sequences_right_of = implies is_second (all_to (game_of bytes).sets (λ h. eqb (written_sequence bytes h) (leading_number (game_of bytes) h)))
+
 module _ (g : Game) where
   -- 3: "N or D0 is zero."
   unfoldable pub counts_positive_of : Bool
   counts_positive_of = ltb 0 g.nodes && ltb 0 g.root_weight
 
-  -- 5: "A set entry's move count is outside 1 to 64."
+  -- 5, its first half: "A set entry's move count is outside 1 to 64."
   unfoldable pub set_moves_in_range : Bool
   set_moves_in_range = all_to g.sets (λ h. is_move_count_of (g.set_moves h))
 
@@ -128,5 +140,5 @@ module _ (g : Game) where
 
 -- To unfold this is to unfold all of this file: for closed computation.
 unfoldable pub opened : Unit {0}
-unfolding is_move_count_of path_limit has_header_of has_edition_of game_length has_length_of padding_zero records_well_formed counts_positive_of set_moves_in_range payload_in_range payloads_in_range_of attached nodes_attached_of is_child share_move moves_lead_on_of children_weight weight_inherited weight_shared weights_obey_rules_of depth_in depth paths_in_limit_of sets_non_empty_of recall_at perfect_recall_of
+unfolding is_move_count_of path_limit has_header_of has_edition_of is_second game_length has_length_of set_zeros_zero padding_zero records_well_formed sequences_right_of counts_positive_of set_moves_in_range payload_in_range payloads_in_range_of attached nodes_attached_of is_child share_move moves_lead_on_of children_weight weight_inherited weight_shared weights_obey_rules_of depth_in depth paths_in_limit_of sets_non_empty_of recall_at perfect_recall_of
 opened = tt

@@ -1,9 +1,9 @@
--- Document 01, "Why a file is sent back": when each refusal applies, as propositions in its own words.
+-- Document 01, "Why a file is sent back", and document 02: when each refusal applies, as propositions in its own words.
 use Rattle.std.specs.Prelude.{ℕ, zero, suc, ◌+◌, ◌≤◌, ◌<◌, ◌≡◌, ◌⊎◌, List, T}
 use Rattle.algebra.specs.Bounded.{total_to}
 use Rattle.model.specs.Bits.{field}
-use Rattle.model.specs.Game.{Game, game_of, node_at, Player, one, two, owns, in_set, node_moves}
-use Rattle.model.specs.Sequences.{own_sequence_of, leading}
+use Rattle.model.specs.Game.{Game, game_of, node_at, written_sequence, set_zeros, Player, one, two, owns, in_set, node_moves}
+use Rattle.model.specs.Sequences.{own_sequence_of, leading, leading_number}
 use Rattle.model.specs.GameChecks.{children_weight}
 use Rattle.model.specs.Plan.{PlanPair, sequence_weight, plan_pair_of}
 use Rattle.model.specs.PlanChecks.{filling}
@@ -20,6 +20,18 @@ pub data PathTo (g : Game) : (n k : ℕ) → Type 0 where
 -- "outside 1 to 64"
 abbrev pub NoMoveCount : ℕ → Type 0
 NoMoveCount k = (k < 1) ⊎ (64 < k)
+
+-- "neither edition"
+abbrev pub NoEdition : (bytes : List ℕ) → Type 0
+NoEdition bytes = ¬ (field bytes 0 4 ≡ 1) × ¬ (field bytes 0 4 ≡ 2)
+
+-- of an edition 2 file "a set zero bit that is one"
+abbrev pub SetZerosSpoilt : (bytes : List ℕ) → Type 0
+SetZerosSpoilt bytes = (field bytes 0 4 ≡ 2) × ((h : ℕ) × (h < (game_of bytes).sets) × ¬ (set_zeros bytes h ≡ 0))
+
+-- of an edition 2 file "a written sequence that is not the one the tree gives"
+abbrev pub SequenceWrong : (bytes : List ℕ) → Type 0
+SequenceWrong bytes = (field bytes 0 4 ≡ 2) × ((h : ℕ) × (h < (game_of bytes).sets) × ¬ (written_sequence bytes h ≡ leading_number (game_of bytes) h))
 
 -- "a payload bit that must be zero is one", at node n: after a decision's set number, or a chance node's move count
 abbrev pub PaddingSpoilt : (bytes : List ℕ) → ℕ → Type 0

@@ -6,7 +6,7 @@ use Prim.Native.Char.{code}
 use mathlib.Core.List.{List, [], ◌∷◌, ◌++◌, flat_map}
 use Rattle.std.specs.Int.Signed.{lt_z}
 use Rattle.model.specs.Limits.{count_limit}
-use Rattle.model.specs.Game.{Game, game_of, Player, one, two, player_number}
+use Rattle.model.specs.Game.{Game, game_of, edition2, length_in, Player, one, two, player_number}
 use Rattle.model.specs.Sequences.{Move}
 use Rattle.model.specs.Plan.{PlanPair, weight_width, plan_pair_of}
 use Rattle.model.specs.Checks.{pair_refusal}
@@ -74,9 +74,9 @@ refusal_line_of k = line (ascii "refusal " ++ decimal k)
 unfoldable pub report_of : (game plan : List ℕ) → List ℕ
 report_of game plan = report (game_of game) (plan_pair_of (game_of game) plan)
 
--- The length of the longest game file that can be accepted: "5 + H + 8N bytes", and N and H have 12 bits each.
+-- The length of the longest game file that a header can count: "5 + 4H + 8N", in edition 2, and N and H have 12 bits each.
 unfoldable pub longest_game : ℕ
-longest_game = 5 + count_limit + 8 * count_limit
+longest_game = length_in edition2 count_limit count_limit
 
 -- Of the longest plan file: "4 bytes plus 12 bits for each move of each set, filled to a byte". The sets of an accepted
 -- game have fewer moves than it has nodes, so 4,094 at most.

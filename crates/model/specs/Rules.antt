@@ -1,12 +1,12 @@
 -- What is good: a file in the words of "The two files", and fields clause by clause of 17.
-use Rattle.std.specs.Prelude.{ℕ, suc, ◌+◌, ◌*◌, ◌/◌, ◌^◌, ◌≤◌, ◌<◌, ◌≡◌, List, length, get_or, T, ℤ, pos, neg_ℤ, ◌≤ℤ◌}
+use Rattle.std.specs.Prelude.{ℕ, suc, ◌+◌, ◌*◌, ◌/◌, ◌^◌, ◌≤◌, ◌<◌, ◌≡◌, ◌⊎◌, List, length, get_or, T, ℤ, pos, neg_ℤ, ◌≤ℤ◌}
 use Rattle.model.specs.Bits.{bit, field}
-use Rattle.model.specs.Game.{Game, game_of, node_at, Player, in_set, node_moves}
-use Rattle.model.specs.Sequences.{own_sequence_of}
+use Rattle.model.specs.Game.{Game, edition2, edition_in, length_in, game_of, node_at, written_sequence, set_zeros, Player, in_set, node_moves}
+use Rattle.model.specs.Sequences.{own_sequence_of, leading_number}
 use Rattle.model.specs.GameChecks.{children_weight}
 use Rattle.model.specs.Plan.{Fits, weight_width, plan_moves, plan_pair_of}
 use Rattle.model.specs.PlanChecks.{Files}
-use Rattle.model.specs.Writing.{GameFields, PlanFields}
+use Rattle.model.specs.Writing.{GameFields, FileFields, PlanFields}
 use Rattle.model.specs.Reasons.{IsChildAt, PathTo}
 
 -- one number has the property, and no other
@@ -47,14 +47,17 @@ pub record GameRules (g : Game) : Type 0 where
   -- "any two nodes of one set have the same own sequence of that set's player"
   pub recall : (h n m : ℕ) → h < g.sets → n < g.nodes → m < g.nodes → T (in_set g h n) → T (in_set g h m) → own_sequence_of g (g.set_player h) n ≡ own_sequence_of g (g.set_player h) m
 
--- A game file that obeys every rule of document 01.
+-- A game file that obeys every rule of document 01, in either edition.
 pub record GameFile (bytes : List ℕ) : Type 0 where
   -- "Header, 40 bits"
   pub header : 5 ≤ length bytes
-  -- "edition (4 bits, value 1)"
-  pub edition : field bytes 0 4 ≡ 1
-  -- "5 + H + 8N bytes"
-  pub size : length bytes ≡ 5 + (game_of bytes).sets + 8 * (game_of bytes).nodes
+  -- "edition (4 bits, value 1)", or edition 2
+  pub edition : (field bytes 0 4 ≡ 1) ⊎ (field bytes 0 4 ≡ 2)
+  -- "5 + H + 8N bytes", in edition 2 "5 + 4H + 8N"
+  pub size : length bytes ≡ length_in (edition_in bytes) (game_of bytes).sets (game_of bytes).nodes
+  -- edition 2: "own sequence number (12)", the one that the tree gives, "12 zero bits"
+  pub set_zeros_lem : field bytes 0 4 ≡ 2 → (h : ℕ) → h < (game_of bytes).sets → set_zeros bytes h ≡ 0
+  pub set_sequences : field bytes 0 4 ≡ 2 → (h : ℕ) → h < (game_of bytes).sets → written_sequence bytes h ≡ leading_number (game_of bytes) h
   -- "A decision's is its set number (12), then zeros. A chance node's is its move count (7 bits, 1 to 64), then zeros."
   pub decision_zeros : (n : ℕ) → n < (game_of bytes).nodes → (game_of bytes).kind n ≡ 1 → field bytes (node_at bytes n + 44) 20 ≡ 0
   pub chance_zeros : (n : ℕ) → n < (game_of bytes).nodes → (game_of bytes).kind n ≡ 2 → field bytes (node_at bytes n + 39) 25 ≡ 0
@@ -88,7 +91,7 @@ FitField width l = (i : ℕ) → get_or l i 0 < 2 ^ width
 abbrev pub FitSigned : List ℤ → Type 0
 FitSigned l = (i : ℕ) → (neg_ℤ (pos 32768) ≤ℤ get_or l i (pos 0)) × (get_or l i (pos 0) ≤ℤ pos 32767)
 
--- Fields that fit, for the game writer: one clause of 17 after the other.
+-- Fields of a game that fit: one clause of 17 after the other.
 pub record FieldsFit (t : GameFields) : Type 0 where
   -- "A number given to a writer does not fit its field (too large, or too small for a signed one)"
   pub root_weight_lem : t.root_weight < 2 ^ 12
@@ -119,6 +122,12 @@ pub record FieldsFit (t : GameFields) : Type 0 where
   pub chance_moves_beside : length t.chance_moves ≡ length t.kinds
   pub payoffs1_beside : length t.payoffs1 ≡ length t.kinds
   pub payoffs2_beside : length t.payoffs2 ≡ length t.kinds
+
+-- Fields that fit, for the game writer of either edition: edition 2's "is given the own sequence numbers too", beside the sets.
+pub record FileFieldsFit (t : FileFields) : Type 0 where
+  pub fields : FieldsFit t.fields
+  pub sequences : t.edition ≡ edition2 → FitField 12 t.sequences
+  pub sequences_beside : t.edition ≡ edition2 → length t.sequences ≡ length t.fields.set_players
 
 -- Fields that fit, for the plan writer: D1, D2 and every weight, 12 bits each.
 pub record PlanFieldsFit (t : PlanFields) : Type 0 where

@@ -7,7 +7,7 @@ use Rattle.model.specs.Table.{TableRow, payoff_table}
 use Rattle.model.specs.Earnings.{Fraction, ◌over◌, value}
 use Rattle.model.specs.BestResponse.{best_value}
 use Rattle.model.specs.Verdict.{Verdict, equilibrium, deviation, verdict}
-use Rattle.model.specs.Writing.{game_bytes, plan_bytes}
+use Rattle.model.specs.Writing.{GameFields, fields1, game_bytes, plan_bytes}
 
 -- A node on a line; parent and move come first.
 pub data Node : Type 0 where
@@ -56,28 +56,30 @@ payoff2_of (decision n m w h) = pos 0
 payoff2_of (chance n m w k) = pos 0
 payoff2_of (leaf n m w a b) = b
 
--- a game file, from D0, the sets' players and move counts, and the nodes
-abbrev pub game_file : ℕ → (players counts : List ℕ) → List Node → List ℕ
-game_file d0 players counts nodes =
-    game_bytes
-    (record {
-      root_weight = d0;
-      set_players = players;
-      set_moves = counts;
-      kinds = map kind_of nodes;
-      parents = map parent_of nodes;
-      moves = map move_of nodes;
-      weights = map weight_of nodes;
-      node_sets = map set_of nodes;
-      chance_moves = map count_of nodes;
-      payoffs1 = map payoff1_of nodes;
-      payoffs2 = map payoff2_of nodes;
-    })
+-- the fields of a game, from D0, the sets' players and move counts, and the nodes
+abbrev pub fields_from : ℕ → (players counts : List ℕ) → List Node → GameFields
+fields_from d0 players counts nodes = record {
+  root_weight = d0;
+  set_players = players;
+  set_moves = counts;
+  kinds = map kind_of nodes;
+  parents = map parent_of nodes;
+  moves = map move_of nodes;
+  weights = map weight_of nodes;
+  node_sets = map set_of nodes;
+  chance_moves = map count_of nodes;
+  payoffs1 = map payoff1_of nodes;
+  payoffs2 = map payoff2_of nodes;
+}
 
--- the game of document 003: "0 root, 1 after L, 2 after R, 3 after Ll, 4 after Lr, 5 lS, 6 lT, 7 rS, 8 rT. D0 = 1."
-unfoldable pub study : List ℕ
-study =
-    game_file 1 (0 ∷ 1 ∷ 0 ∷ []) (2 ∷ 2 ∷ 2 ∷ [])
+-- its game file
+abbrev pub game_file : ℕ → (players counts : List ℕ) → List Node → List ℕ
+game_file d0 players counts nodes = game_bytes (fields1 (fields_from d0 players counts nodes))
+
+-- the fields of the game of document 003: "0 root, 1 after L, 2 after R, 3 after Ll, 4 after Lr, 5 lS, 6 lT, 7 rS, 8 rT. D0 = 1."
+unfoldable pub study_fields : GameFields
+study_fields =
+    fields_from 1 (0 ∷ 1 ∷ 0 ∷ []) (2 ∷ 2 ∷ 2 ∷ [])
     (decision 0 0 1 0
     ∷ decision 0 0 1 1
     ∷ leaf 0 1 1 (pos 3) (pos 3)
@@ -88,6 +90,10 @@ study =
     ∷ leaf 4 0 1 (pos 5) (pos 6)
     ∷ leaf 4 1 1 (pos 6) (pos 1)
     ∷ [])
+
+-- its file
+unfoldable pub study : List ℕ
+study = game_bytes (fields1 study_fields)
 
 -- Plans for it, in file order: L, R, S, T of player 1, then l, r of player 2.
 unfoldable pub plan_m : List ℕ
@@ -178,5 +184,5 @@ starred =
 
 -- To unfold this is to unfold all of this file: for closed computation.
 unfoldable pub opened : Unit {0}
-unfolding study plan_m plan_q plan_f plan_mixed single bare absent_minded pair_result
+unfolding study_fields study plan_m plan_q plan_f plan_mixed single bare absent_minded pair_result
 opened = tt

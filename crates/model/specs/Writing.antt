@@ -1,9 +1,10 @@
--- Document 01, "The two files" and refusals 17 and 18: the fields of a game, and the bytes that the writers write.
+-- Document 01, "The two files" and refusals 17 and 18, and document 02, W-204: the fields of a game, and the bytes that the writers write.
 use Rattle.std.specs.Prelude.{ℕ, zero, suc, ◌*◌, ◌^◌, Bool, true, false, ◌&&◌, cond, List, [], ◌∷◌, ◌++◌, length, eqb, ltb, ℤ, pos, negsuc}
 use Rattle.algebra.specs.Arrays.{item, item_z}
 use Rattle.algebra.specs.Bounded.{all_to, join_to, list_to}
 use Rattle.model.specs.Bits.{bits, run_bits, pack, twos_complement}
-use Rattle.model.specs.Game.{Game, Player, one, two, player_bit, is_leaf, is_decision, is_chance}
+use Rattle.model.specs.Game.{Game, game_of, Edition, edition1, edition2, edition_in, Player, one, two, player_bit, is_leaf, is_decision, is_chance}
+use Rattle.model.specs.Sequences.{leading_number}
 use Rattle.model.specs.Plan.{weight_width}
 
 -- What the game writer is given: D0 and one list a field, those of the sets and those of the nodes side by side.
@@ -39,6 +40,23 @@ game_fields_of root_weight set_players set_moves kinds parents moves weights nod
 -- ten lists as the fields of a game, where D0 is no list
 abbrev pub field_lists : (set_players set_moves kinds parents moves weights node_sets chance_moves : List ℕ) → (payoffs1 payoffs2 : List ℤ) → GameFields
 field_lists = game_fields_of 0
+
+-- What a game file is written of: its edition, the fields, and for edition 2 "the own sequence numbers too", one a set.
+pub record FileFields : Type 0 where
+  pub edition : Edition
+  pub fields : GameFields
+  pub sequences : List ℕ  -- edition 1 writes none
+
+abbrev pub file_fields : Edition → GameFields → (sequences : List ℕ) → FileFields
+file_fields e t sequences = record { edition = e; fields = t; sequences = sequences }
+
+-- what the writer of edition 1 is given
+abbrev pub fields1 : GameFields → FileFields
+fields1 t = file_fields edition1 t []
+
+-- what the writer of edition 2 is given
+abbrev pub fields2 : GameFields → (sequences : List ℕ) → FileFields
+fields2 = file_fields edition2
 
 -- What the plan writer is given: D1, D2 and all weights in file order.
 pub record PlanFields : Type 0 where
@@ -83,6 +101,10 @@ module _ (g : Game) where
     payoffs2 = list_to g.nodes (payoff_field two);
   }
 
+-- what a game file is written of in an edition: the own sequence numbers are those that the tree gives
+abbrev pub file_fields_of : Edition → Game → FileFields
+file_fields_of e g = file_fields e (fields_of g) (list_to g.sets (leading_number g))
+
 module _ (t : GameFields) where
   -- H: "They take the counts from the lengths of the tables"
   unfoldable pub set_count : ℕ
@@ -91,10 +113,6 @@ module _ (t : GameFields) where
   -- N, the length of the nodes' tables
   unfoldable pub node_count : ℕ
   node_count = length t.kinds
-
-  -- set entry h: player (1 bit), move count (7)
-  unfoldable pub set_bits : ℕ → List ℕ
-  set_bits h = bits 1 (item t.set_players h) ++ bits 7 (item t.set_moves h)
 
   -- a payload of 32 bits, by the node's kind; the writer writes the zero bits itself
   unfoldable pub payload_bits : (kind n : ℕ) → List ℕ
@@ -111,13 +129,37 @@ module _ (t : GameFields) where
       ++ bits 12 (item t.weights n)
       ++ payload_bits (item t.kinds n) n
 
-  -- header: edition (4 bits, value 1), N (12), H (12), D0 (12)
+-- the number of an edition
+abbrev pub edition_number : Edition → ℕ
+edition_number edition1 = 1
+edition_number edition2 = 2
+
+-- what a set entry has after its move count: in edition 2 "own sequence number (12), 12 zero bits"
+abbrev pub sequence_bits : Edition → (number : ℕ) → List ℕ
+sequence_bits edition1 number = []
+sequence_bits edition2 number = bits 12 number ++ bits 12 0
+
+module _ (t : FileFields) where
+  -- header: edition (4 bits), N (12), H (12), D0 (12)
   unfoldable pub header_bits : List ℕ
-  header_bits = bits 4 1 ++ bits 12 node_count ++ bits 12 set_count ++ bits 12 t.root_weight
+  header_bits = bits 4 (edition_number t.edition) ++ bits 12 (node_count t.fields) ++ bits 12 (set_count t.fields) ++ bits 12 t.fields.root_weight
+
+  -- set entry h: player (1 bit), move count (7), and what the edition has after it
+  unfoldable pub set_bits : ℕ → List ℕ
+  set_bits h = bits 1 (item t.fields.set_players h) ++ bits 7 (item t.fields.set_moves h) ++ sequence_bits t.edition (item t.sequences h)
 
   -- the bytes of a game file
   unfoldable pub game_bytes : List ℕ
-  game_bytes = pack (header_bits ++ join_to set_count set_bits ++ join_to node_count node_bits)
+  game_bytes = pack (header_bits ++ join_to (set_count t.fields) set_bits ++ join_to (node_count t.fields) (node_bits t.fields))
+
+-- the edition that is not this one
+abbrev pub other_edition_of : Edition → Edition
+other_edition_of edition1 = edition2
+other_edition_of edition2 = edition1
+
+-- "Turning an accepted file of either edition into the other": its game, written in the other edition
+unfoldable pub other_file : List ℕ → List ℕ
+other_file bytes = game_bytes (file_fields_of (other_edition_of (edition_in bytes)) (game_of bytes))
 
 -- the bytes of a plan file: header, then "all weights as one list in file order"
 unfoldable pub plan_bytes : (d1 d2 : ℕ) → (weights : List ℕ) → List ℕ
@@ -181,9 +223,18 @@ module _ (t : GameFields) where
       && all_fit_signed_of 16 t.payoffs1
       && all_fit_signed_of 16 t.payoffs2
 
-  -- 17, for the game writer
+  -- 17, of the fields of a game
   unfoldable pub game_fields_fit : Bool
   game_fields_fit = side_by_side && numbers_fit && all_to (node_count t) (λ n. kind_fits_of (item t.kinds n) n)
+
+-- 17, of the own sequence numbers: in edition 2 there is one beside each set, of 12 bits; edition 1 takes none
+abbrev pub sequences_fit : Edition → (sets : ℕ) → List ℕ → Bool
+sequences_fit edition1 sets sequences = true
+sequences_fit edition2 sets sequences = eqb (length sequences) sets && all_fit 12 sequences
+
+-- 17, for the writer of either edition
+unfoldable pub file_fields_fit : FileFields → Bool
+file_fields_fit t = game_fields_fit t.fields && sequences_fit t.edition (set_count t.fields) t.sequences
 
 -- 17, for the plan writer
 unfoldable pub plan_fields_fit : (d1 d2 : ℕ) → (weights : List ℕ) → Bool
@@ -191,5 +242,5 @@ plan_fields_fit d1 d2 weights = all_fit weight_width (d1 ∷ d2 ∷ weights)
 
 -- To unfold this is to unfold all of this file: for closed computation.
 unfoldable pub opened : Unit {0}
-unfolding player_field set_field moves_field payoff_field fields_of set_count node_count set_bits payload_bits node_bits header_bits game_bytes plan_bytes all_fit fits_signed_of all_fit_signed_of kind_fits_of side_by_side numbers_fit game_fields_fit plan_fields_fit
+unfolding player_field set_field moves_field payoff_field fields_of set_count node_count payload_bits node_bits header_bits set_bits game_bytes other_file plan_bytes all_fit fits_signed_of all_fit_signed_of kind_fits_of side_by_side numbers_fit game_fields_fit file_fields_fit plan_fields_fit
 opened = tt

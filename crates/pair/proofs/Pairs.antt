@@ -1,5 +1,5 @@
 -- Both files: which refusal a pair gets, and what its answer says.
-use Prim.Native.Nat.{ℕ, zero, suc, ◌≤◌, ◌<◌}
+use Prim.Native.Nat.{ℕ, zero, suc, ◌≤◌}
 use mathlib.Core.Path.{◌≡◌, refl, sym, ap, ◌∙◌}
 use mathlib.Core.Bool.{false, cond, ◌||◌}
 use mathlib.Core.List.{List}
@@ -15,7 +15,7 @@ use Rattle.model.specs.Sequences.{sequence_count}
 use Rattle.model.specs.Checks.{header_rows, record_rows, tree_rows, game_rows, plan_rows, pair_rows, game_refusal, pair_refusal}
 use Rattle.model.specs.PlanChecks.{Files, files}
 use Rattle.model.specs.Rows.{of, refusal}
-use Rattle.model.proofs.Rows.{named_of, refusal_of_lem, refusal_append, refusal_below}
+use Rattle.model.proofs.Rows.{named_of, refusal_of_lem, refusal_append, refusal_other}
 use Rattle.loaded.specs.declared.Counts.{Counts}
 use Rattle.loaded.specs.Counts.{counts_of}
 use Rattle.model.proofs.Checks.{game_named, game_rules}
@@ -49,8 +49,7 @@ module _ (game plan : List ℕ) where
   pub game_early : {r : ℕ} → r ≡ game_refusal game → ¬ (r ≡ 0) → (eqb r 0 || eqb r 16) ≡ false
   unfolding game_refusal game_rows header_rows record_rows tree_rows
   game_early {r} e s =
-      let low : r < 14 = omega (arith, e, refusal_below game_rows game 14 (omega arith) tt) in
-      rw (ne_eqb r 0 s, ne_eqb r 16 (λ e. omega arith))
+      rw (ne_eqb r 0 s, ne_eqb r 16 (λ z. refusal_other game_rows game 16 (λ z. omega arith) tt (sym e ∙ z)))
 
   -- one that is accepted
   pub plan_decides : game_refusal game ≡ 0 → pair_refusal game plan ≡ plan_refusal game plan

@@ -44,7 +44,7 @@ pub fn refusal(answer: PairAnswer) -> u64
     }
 }
 
-// Checks 1 to 16. Past 13 the game is loaded, past 15 the arrays are filled with both players' weights by sequence number.
+// Checks 1 to 16 and 22. Past 22 the game is loaded, past 15 the arrays are filled with both players' weights by sequence number.
 pub fn read(
     game: &[u8],
     plan: &[u8],

@@ -11,14 +11,14 @@ use loaded::Section;
 use pair::PairAnswer;
 use records::NodeRecord;
 
-// The answer to a plan file against a game file: it fits, with D1 and D2, or the first refusal, 1 to 16.
+// The answer to a plan file against a game file: it fits, with D1 and D2, or the first refusal, 1 to 16 or 22.
 #[derive(Drop)]
 pub enum PlanAnswer {
     Fits { d1: u64, d2: u64 },
     Refused(u64),
 }
 
-// D1, D2 and how many weights the plan has, which stand in the lent buffer; a refusal is 1 to 16, or 18.
+// D1, D2 and how many weights the plan has, which stand in the lent buffer; a refusal is 1 to 16, 22 or 18.
 #[derive(Drop)]
 pub enum WeightsAnswer {
     Given { d1: u64, d2: u64, count: u64 },

@@ -1,11 +1,12 @@
 -- Records fill whole bytes: where their bits are put, their bytes are placed.
 use Prim.Native.Nat.{ℕ, zero, suc, ◌+◌, ◌*◌, ◌≤◌}
 use mathlib.Core.Path.{◌≡◌, refl, ap, ◌∙◌}
-use mathlib.Core.List.{List, ◌++◌}
+use mathlib.Core.List.{List, ◌++◌, append_assoc, append-nil}
 use native.Mathlib.Omega.{arith}
 use lib.ListN.{length, length-append}
 use Rattle.algebra.specs.Arrays.{placed}
 use Rattle.model.specs.Bits.{bits, packed}
+use Rattle.model.specs.Game.{Edition, edition1, edition2, entry_bytes}
 use Rattle.model.proofs.Bits.{length_bits}
 use Rattle.model.proofs.Spelling.{BitList, bitlist_bits, bitlist_append}
 use Rattle.bits.specs.Puts.{bits_put}
@@ -31,10 +32,28 @@ pub header_filled : (x : Header) (out : List ℕ) {after : List ℕ} → 5 ≤ l
 unfolding header_bits
 header_filled x out room put = filled 5 0 0 (header_bits x) out (four 4 x.edition 12 x.nodes 12 x.sets 12 x.root_weight) refl (omega arith) put
 
--- a set entry
-pub entry_filled : (x : SetEntry) (h at : ℕ) (out : List ℕ) {after : List ℕ} → at ≡ 40 + 8 * h → 5 + h + 1 ≤ length out → after ≡ bits_put out at (entry_bits x) → after ≡ placed (5 + h) (packed 1 (entry_bits x)) out
+-- a set entry has its edition's bytes
+entry_are : (e : Edition) (x : SetEntry) (sequence : ℕ) → BitList (8 * entry_bytes e) (entry_bits e x sequence)
 unfolding entry_bits
-entry_filled x h at out e room put = filled 1 (5 + h) at (entry_bits x) out (bitlist_append (bitlist_bits 1 x.player) (bitlist_bits 7 x.moves)) (omega (arith, e)) room put
+entry_are edition1 x sequence = bitlist_append (bitlist_append (bitlist_bits 1 x.player) (bitlist_bits 7 x.moves)) (record { sized = refl; small = λ i. omega arith })
+entry_are edition2 x sequence = bitlist_append (bitlist_append (bitlist_bits 1 x.player) (bitlist_bits 7 x.moves)) (bitlist_append (bitlist_bits 12 sequence) (bitlist_bits 12 0))
+
+-- in edition 1 those are two fields, in edition 2 four
+pub first_bits : (x : SetEntry) (sequence : ℕ) → bits 1 x.player ++ bits 7 x.moves ≡ entry_bits edition1 x sequence
+unfolding entry_bits
+first_bits x sequence = simp append-nil
+
+pub second_bits : (x : SetEntry) (sequence : ℕ) → bits 1 x.player ++ bits 7 x.moves ++ bits 12 sequence ++ bits 12 0 ≡ entry_bits edition2 x sequence
+unfolding entry_bits
+second_bits x sequence = simp append_assoc
+
+-- a set entry
+pub entry_filled : (e : Edition) (x : SetEntry) (sequence h at : ℕ) (out : List ℕ) {after : List ℕ} → at ≡ 40 + 8 * entry_bytes e * h → 5 + entry_bytes e * h + entry_bytes e ≤ length out → after ≡ bits_put out at (entry_bits e x sequence) → after ≡ placed (5 + entry_bytes e * h) (packed (entry_bytes e) (entry_bits e x sequence)) out
+entry_filled e x sequence h at out is room put = filled (entry_bytes e) (5 + entry_bytes e * h) at (entry_bits e x sequence) out (entry_are e x sequence) (is ∙ place e) room put
+  where
+    place : (e : Edition) → 40 + 8 * entry_bytes e * h ≡ 8 * (5 + entry_bytes e * h)
+    place edition1 = omega arith
+    place edition2 = omega arith
 
 -- a payload has 32 bits
 payload_are : (kind : ℕ) (x : Payload) → BitList 32 (payload_bits kind x)

@@ -1,17 +1,14 @@
 -- Payloads by kind.
 use Prim.Native.Nat.{ℕ, zero, suc, ◌+◌, ◌*◌, ◌<◌, ◌≤◌, ◌^◌}
-use mathlib.Core.Path.{◌≡◌, refl, sym, ap, ◌∙◌}
+use mathlib.Core.Path.{◌≡◌, refl, ap, ◌∙◌}
 use mathlib.Core.List.{List}
 use native.Mathlib.Omega.{arith}
 use Rattle.model.specs.Bits.{field}
-use lib.Dec.{eqb, eqb→eq}
-use Rattle.algebra.proofs.Tests.{cond_no, eqb_make}
-use Rattle.model.specs.Game.{Game, game_of, set_at, node_at, is_decision, is_chance, node_moves}
-use Rattle.model.proofs.Tree.{decision_moves}
+use Rattle.model.specs.Game.{game_of, edition_in, set_at, node_at}
 use Rattle.model.proofs.Bits.{field_fits}
 use Rattle.records.specs.declared.game_file.Payload.{Payload}
 use Rattle.records.specs.Records.{payload_of, no_payload, NodeRead}
-use Rattle.records.proofs.Records.{moves_by_kind}
+use Rattle.records.proofs.Entries.{entries_few}
 
 -- a kind that does not exist has nothing
 pub other_payload : (bytes : List ℕ) (at kind : ℕ) → 3 ≤ kind → payload_of bytes at kind ≡ no_payload
@@ -47,10 +44,10 @@ pub node_place : (bytes : List ℕ) (records n : ℕ) → records ≡ node_at by
 unfolding node_at
 node_place bytes records n e = omega arith
 
--- the records begin within the first 33,000 bits
-pub node_bound : (bytes : List ℕ) → node_at bytes 0 < 33000
+-- the records begin within the first 132,000 bits
+pub node_bound : (bytes : List ℕ) → node_at bytes 0 < 132000
 unfolding node_at set_at
-node_bound bytes = omega (arith, field_fits bytes 16 12)
+node_bound bytes = omega (arith, entries_few (edition_in bytes) (field bytes 16 12) (field_fits bytes 16 12))
 
 -- fields read from a node's place on are its record
 pub node_read : (bytes : List ℕ) (n at kind parent place weight : ℕ) (payload : Payload) → at ≡ node_at bytes n → kind ≡ field bytes at 2 → parent ≡ field bytes (at + 2) 12 → place ≡ field bytes (at + 14) 6 → weight ≡ field bytes (at + 20) 12 → payload ≡ payload_of bytes (at + 32) kind → NodeRead bytes n (record { kind = kind; parent = parent; place = place; weight = weight; payload = payload })
@@ -72,15 +69,3 @@ node_read bytes n at kind parent place weight payload e k r s w p =
       set_fits = rw p (payload_set bytes (at + 32) kind);
       moves_fit = rw p (payload_moves bytes (at + 32) kind);
     }
-
--- a decision has its set's moves
-pub decision_count : (g : Game) (n set moves : ℕ) → g.kind n ≡ 1 → set ≡ g.node_set n → moves ≡ g.set_moves set → moves ≡ node_moves g n
-unfolding is_decision
-decision_count g n set moves k s m = m ∙ ap g.set_moves s ∙ sym (decision_moves g n (eqb_make (g.kind n) 1 k))
-
--- any other node has what its payload says
-pub other_count : (bytes : List ℕ) (n : ℕ) → ¬ ((game_of bytes).kind n ≡ 1) → (payload_of bytes (node_at bytes n + 32) ((game_of bytes).kind n)).moves ≡ node_moves (game_of bytes) n
-unfolding node_moves is_decision is_chance
-other_count bytes n d =
-    moves_by_kind bytes n ((game_of bytes).kind n)
-    ∙ sym (cond_no (eqb ((game_of bytes).kind n) 1) _ _ (λ t. d (eqb→eq ((game_of bytes).kind n) 1 t)))

@@ -1,7 +1,8 @@
 -- What reading a record of a game file gives, from the model's definitions, and the bits that putting it gives.
 use Rattle.std.specs.Prelude.{ℕ, zero, suc, ◌+◌, ◌*◌, ◌<◌, ◌^◌, ◌≡◌, List, ◌++◌, ℤ, pos}
 use Rattle.model.specs.Bits.{field, signed, bits, twos_complement}
-use Rattle.model.specs.Game.{game_of, node_at, set_at}
+use Rattle.model.specs.Game.{Edition, edition_of, entry_bytes, game_of, node_at, entry_field}
+use Rattle.model.specs.Writing.{sequence_bits}
 use Rattle.records.specs.declared.game_file.Header.{Header}
 use Rattle.records.specs.declared.game_file.SetEntry.{SetEntry}
 use Rattle.records.specs.declared.game_file.Payload.{Payload}
@@ -17,9 +18,9 @@ header_of bytes = record {
   records = node_at bytes 0;
 }
 
--- the header of a file with so many nodes and sets
-abbrev pub header_with : (nodes sets root_weight : ℕ) → Header
-header_with nodes sets root_weight = record { edition = 1; nodes = nodes; sets = sets; root_weight = root_weight; records = 40 + 8 * sets }
+-- the header of a file of an edition with so many nodes and sets
+abbrev pub header_with : (edition nodes sets root_weight : ℕ) → Header
+header_with edition nodes sets root_weight = record { edition = edition; nodes = nodes; sets = sets; root_weight = root_weight; records = 40 + 8 * entry_bytes (edition_of edition) * sets }
 
 -- the bits of a header: edition, N, H, D0
 unfoldable pub header_bits : Header → List ℕ
@@ -27,14 +28,14 @@ header_bits x = bits 4 x.edition ++ bits 12 x.nodes ++ bits 12 x.sets ++ bits 12
 
 -- The entry of set h, and the widths of its fields.
 pub record SetRead (bytes : List ℕ) (h : ℕ) (r : SetEntry) : Type 0 where
-  pub player : r.player ≡ field bytes (set_at h) 1
+  pub player : r.player ≡ entry_field bytes h 0 1
   pub moves : r.moves ≡ (game_of bytes).set_moves h
   pub player_fits : r.player < 2
   pub moves_fit : r.moves < 128
 
--- the bits of a set entry: player, move count
-unfoldable pub entry_bits : SetEntry → List ℕ
-entry_bits x = bits 1 x.player ++ bits 7 x.moves
+-- the bits of a set entry in an edition: player, move count, and what the edition has after it
+unfoldable pub entry_bits : Edition → SetEntry → (sequence : ℕ) → List ℕ
+entry_bits e x sequence = bits 1 x.player ++ bits 7 x.moves ++ sequence_bits e sequence
 
 -- payloads, by kind
 abbrev pub leaf_payload : (payoff1 payoff2 : ℤ) → Payload

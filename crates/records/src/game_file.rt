@@ -1,8 +1,8 @@
-// The records of a game file, read and put. Where a field stands and how wide it is, its edition and its limits are said here alone.
+// The records of a game file of either edition, read and put. Where a field stands and how wide it is, the editions and the limits are said here alone.
 ghost use Rattle.std.specs.Prelude.{◌≡◌, ℕ, ◌+◌, ◌*◌, ◌/◌, ◌≤◌, ◌<◌, ◌^◌, List, length};
 ghost use Rattle.algebra.specs.Arrays.{placed};
 ghost use Rattle.model.specs.Bits.{field, packed};
-ghost use Rattle.model.specs.Game.{game_of, node_at, node_moves};
+ghost use Rattle.model.specs.Game.{edition_of, entry_bytes, length_in, game_of, node_at, written_sequence, set_zeros};
 ghost use Rattle.model.specs.GameChecks.{is_move_count_of};
 ghost use Rattle.bits.specs.Puts.{bits_put};
 ghost use Rattle.records.specs.Records.{header_of, header_with, header_bits, SetRead, entry_bits, payload_of, leaf_payload, decision_payload, chance_payload, no_payload, payload_bits, NodeRead, node_bits};
@@ -20,7 +20,10 @@ pub struct Header {
 }
 
 impl Header {
-    pub const EDITION: u64 = 1;
+    // The two editions.
+    pub const FIRST: u64 = 1;
+
+    pub const SECOND: u64 = 2;
 
     pub const EDITION_BITS: usize = 4;
 
@@ -38,31 +41,33 @@ impl Header {
 
     const BELOW_EDITION: usize = Header::BELOW_NODES + Header::COUNT_BITS;
 
-    // The bytes of the longest file that a header can count.
+    // The bytes of the longest file that a header can count: edition 2 has the longer set entries.
     pub const LONGEST_FILE: usize = Header::BYTES
-        + SetEntry::BYTES * SetEntry::SETS
+        + SetEntry::SECOND_BYTES * SetEntry::SETS
         + NodeRecord::BYTES * NodeRecord::NODES;
 
-    // The header of a file with so many nodes and sets, and this D0.
-    pub fn new(nodes: usize, sets: usize, root_weight: u64) -> Self
+    // The header of a file of this edition with so many nodes and sets, and this D0.
+    pub fn new(edition: u64, nodes: usize, sets: usize, root_weight: u64) -> Self
         requires { sets < 2 ^ 12 }
-        ensures { result ≡ header_with nodes sets root_weight }
+        ensures { result ≡ header_with edition nodes sets root_weight }
     {
         Header {
-            edition: Header::EDITION,
+            edition,
             nodes,
             sets,
             root_weight,
-            records: Header::BITS + SetEntry::BITS * sets,
+            records: SetEntry::place(edition, sets),
         }
     }
 
     // How many bytes its file has.
     pub fn file_bytes(self) -> usize
         requires { (self.nodes < 2 ^ 12) × (self.sets < 2 ^ 12) }
-        ensures { result ≡ 5 + self.sets + 8 * self.nodes }
+        ensures { result ≡ length_in (edition_of self.edition) self.sets self.nodes }
     {
-        Header::BYTES + SetEntry::BYTES * self.sets + NodeRecord::BYTES * self.nodes
+        Header::BYTES
+            + SetEntry::bytes_in(self.edition) * self.sets
+            + NodeRecord::BYTES * self.nodes
     }
 
     // The header of a file.
@@ -74,13 +79,7 @@ impl Header {
         let nodes = bits::cut(word, Header::BELOW_NODES, Header::COUNT_BITS) as usize;
         let sets = bits::cut(word, Header::BELOW_SETS, Header::COUNT_BITS) as usize;
         let root_weight = bits::cut(word, 0, Header::COUNT_BITS);
-        Header {
-            edition,
-            nodes,
-            sets,
-            root_weight,
-            records: Header::BITS + SetEntry::BITS * sets,
-        }
+        Header::new(edition, nodes, sets, root_weight)
     }
 
     // Puts the header at the start of a file.
@@ -103,7 +102,7 @@ impl Header {
     }
 }
 
-// The entry of an information set.
+// The entry of an information set: what it has in both editions.
 #[derive(Drop)]
 pub struct SetEntry {
     pub player: u64,
@@ -115,9 +114,20 @@ impl SetEntry {
 
     pub const MOVES_BITS: usize = 7;
 
+    // Of what both editions have.
     pub const BITS: usize = SetEntry::PLAYER_BITS + SetEntry::MOVES_BITS;
 
-    pub const BYTES: usize = SetEntry::BITS / 8;
+    // Of the own sequence number and of the zeros, which edition 2 has after that.
+    pub const SEQUENCE_BITS: usize = 12;
+
+    pub const ZERO_BITS: usize = 12;
+
+    const BELOW_SEQUENCE: usize = SetEntry::BITS + SetEntry::SEQUENCE_BITS;
+
+    // Of an entry in either edition.
+    pub const FIRST_BYTES: usize = SetEntry::BITS / 8;
+
+    pub const SECOND_BYTES: usize = (SetEntry::BELOW_SEQUENCE + SetEntry::ZERO_BITS) / 8;
 
     // The most sets that a header can count.
     pub const SETS: usize = NodeRecord::NODES;
@@ -125,31 +135,84 @@ impl SetEntry {
     // The most moves of a set or of a chance node.
     pub const MOVES: usize = 64;
 
-    // The entry of set `h`.
-    pub fn read(bytes: &[u8], h: usize) -> Self
+    // How many bytes an entry has in an edition.
+    pub fn bytes_in(edition: u64) -> usize
+        ensures { result ≡ entry_bytes (edition_of edition) }
+    {
+        if edition == Header::SECOND {
+            SetEntry::SECOND_BYTES
+        } else {
+            SetEntry::FIRST_BYTES
+        }
+    }
+
+    // The bit at which the entry of set `h` begins in an edition; after the last set, the node records.
+    pub fn place(edition: u64, h: usize) -> usize
         requires { h < 2 ^ 12 }
+        ensures { result ≡ 40 + 8 * entry_bytes (edition_of edition) * h }
+    {
+        Header::BITS + 8 * SetEntry::bytes_in(edition) * h
+    }
+
+    // The entry of set `h` of a file of this edition.
+    pub fn read(bytes: &[u8], edition: u64, h: usize) -> Self
+        requires { (edition ≡ field bytes.now 0 4) × (h < (game_of bytes.now).sets) }
         ensures { SetRead bytes.now h result }
     {
-        let at = Header::BITS + SetEntry::BITS * h;
+        let at = SetEntry::place(edition, h);
         let word = bits::read_field(bytes, at, SetEntry::BITS);
         let player = bits::cut(word, SetEntry::MOVES_BITS, SetEntry::PLAYER_BITS);
         let moves = bits::cut(word, 0, SetEntry::MOVES_BITS) as usize;
         SetEntry { player, moves }
     }
 
-    // Puts it as the entry of set `h`.
-    pub fn put(self, out: &mut [u8], h: usize)
-        requires { (h < 2 ^ 12) × (5 + h < length out.old) }
-        ensures { out.new ≡ placed (5 + h) (packed 1 (entry_bits self)) out.old }
+    // The own sequence number that the entry of set `h` of an edition 2 file has.
+    pub fn sequence(bytes: &[u8], edition: u64, h: usize) -> u64
+        requires { (edition ≡ field bytes.now 0 4) × (h < (game_of bytes.now).sets) }
+        ensures { result ≡ written_sequence bytes.now h }
     {
-        bit_writer::put_two(
-            out,
-            Header::BITS + SetEntry::BITS * h,
-            SetEntry::PLAYER_BITS,
-            self.player,
-            SetEntry::MOVES_BITS,
-            self.moves as u64,
-        );
+        let at = SetEntry::place(edition, h);
+        bits::read_field(bytes, at + SetEntry::BITS, SetEntry::SEQUENCE_BITS)
+    }
+
+    // The bits after it, which must be zero.
+    pub fn zeros(bytes: &[u8], edition: u64, h: usize) -> u64
+        requires { (edition ≡ field bytes.now 0 4) × (h < (game_of bytes.now).sets) }
+        ensures { result ≡ set_zeros bytes.now h }
+    {
+        let at = SetEntry::place(edition, h);
+        bits::read_field(bytes, at + SetEntry::BELOW_SEQUENCE, SetEntry::ZERO_BITS)
+    }
+
+    // Puts it as the entry of set `h` of a file of this edition, with the own sequence number, which edition 1 lacks.
+    pub fn put(self, out: &mut [u8], edition: u64, h: usize, sequence: u64)
+        requires { (h < 2 ^ 12) × (5 + entry_bytes (edition_of edition) * h + entry_bytes (edition_of edition) ≤ length out.old) }
+        ensures { out.new ≡ placed (5 + entry_bytes (edition_of edition) * h) (packed (entry_bytes (edition_of edition)) (entry_bits (edition_of edition) self sequence)) out.old }
+    {
+        let at = SetEntry::place(edition, h);
+        if edition == Header::SECOND {
+            bit_writer::put_four(
+                out,
+                at,
+                SetEntry::PLAYER_BITS,
+                self.player,
+                SetEntry::MOVES_BITS,
+                self.moves as u64,
+                SetEntry::SEQUENCE_BITS,
+                sequence,
+                SetEntry::ZERO_BITS,
+                0,
+            );
+        } else {
+            bit_writer::put_two(
+                out,
+                at,
+                SetEntry::PLAYER_BITS,
+                self.player,
+                SetEntry::MOVES_BITS,
+                self.moves as u64,
+            );
+        }
     }
 }
 
@@ -371,7 +434,7 @@ impl NodeRecord {
 
     // Puts it as the record of node `n`, where the records begin at bit `records`, the first of a byte.
     pub fn put(self, out: &mut [u8], records: usize, n: usize)
-        requires { (records ≡ 8 * (records / 8)) × (records < 33000) × (n < 2 ^ 12) × (records / 8 + 8 * n + 8 ≤ length out.old) }
+        requires { (records ≡ 8 * (records / 8)) × (records < 132000) × (n < 2 ^ 12) × (records / 8 + 8 * n + 8 ≤ length out.old) }
         ensures { out.new ≡ placed (records / 8 + 8 * n) (packed 8 (node_bits self)) out.old }
     {
         let at = records + NodeRecord::BITS * n;
@@ -401,17 +464,4 @@ pub fn is_move_count(moves: usize) -> bool
     } else {
         false
     }
-}
-
-// How many moves node `n` has: its set's, its own, or none.
-pub fn move_count(bytes: &[u8], records: usize, n: usize) -> usize
-    requires { (records ≡ node_at bytes.now 0) × (n < 2 ^ 12) }
-    ensures { result ≡ node_moves (game_of bytes.now) n }
-{
-    let node = NodeRecord::read(bytes, records, n);
-    if node.kind == Payload::DECISION {
-        let entry = SetEntry::read(bytes, node.payload.set);
-        return entry.moves;
-    }
-    node.payload.moves
 }

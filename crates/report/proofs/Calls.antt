@@ -82,7 +82,7 @@ module _ (game plan : List ℕ) where
 
   refusal_few : pair_refusal game plan < 2 ^ 64
   unfolding pair_rows plan_rows game_rows header_rows record_rows tree_rows of
-  refusal_few = omega (arith, pair_refusal_lem game plan, refusal_below pair_rows (files game plan) 17 (omega arith) tt)
+  refusal_few = omega (arith, pair_refusal_lem game plan, refusal_below pair_rows (files game plan) 23 (omega arith) tt)
 
   -- what the program prints for any two files
   pub printed_most : length (Text.printed game plan) ≤ most

@@ -50,7 +50,7 @@ fn give_report(
     give(&text[..size], out)
 }
 
-// The desk program's text for two files that fit, at the start of the buffer, and how many bytes it has; a refusal is 1 to 16, or 18.
+// The desk program's text for two files that fit, at the start of the buffer, and how many bytes it has; a refusal is 1 to 16, 22 or 18.
 pub fn report(game: &[u8], plan: &[u8], out: &mut [u8]) -> WriteAnswer
     ensures { outcome (write_answered result) (out.new, tt) ≡ report_call game.now plan.now out.old }
 {

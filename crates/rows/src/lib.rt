@@ -13,7 +13,7 @@ use checks::Checked;
 use loaded::Section;
 use payoff::layout::{lay_out, row_sequence, row_sum};
 
-// How many rows the payoff table has, which stand in what is lent; a refusal is 1 to 13, or 18.
+// How many rows the payoff table has, which stand in what is lent; a refusal is 1 to 13, 22 or 18.
 #[derive(Drop)]
 pub enum TableAnswer {
     Given { rows: u64 },

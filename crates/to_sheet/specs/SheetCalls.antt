@@ -13,7 +13,7 @@ use Rattle.model.specs.Calls.SheetFromPlan.{pair_in}
 unfoldable pub odds_in_order : Files → List ℕ
 odds_in_order f = in_plan_order (game_of f.game) (sheet_from (game_of f.game) (pair_in f))
 
--- Of a game file and a plan file: 1 to 16, and 18 for the one buffer, which takes the odds. It gives how many they are.
+-- Of a game file and a plan file: 1 to 16, 22, and 18 for the one buffer, which takes the odds. It gives how many they are.
 unfoldable pub odds_call : Call Files (ℕ ∷ []) ℕ
 odds_call = record { rows = pair_rows; result = λ f. length (odds_in_order f); written = λ f. (odds_in_order f, tt) }
 

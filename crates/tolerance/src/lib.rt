@@ -13,7 +13,7 @@ use loaded::Section;
 use records::{Denominators, NodeRecord};
 use verdict::verdicts;
 
-// A pair passes at a tolerance where no strategy of either player gains more; a refusal is 1 to 16.
+// A pair passes at a tolerance where no strategy of either player gains more; a refusal is 1 to 16 or 22.
 #[derive(Drop)]
 pub enum ToleranceAnswer {
     Passes,

@@ -70,7 +70,7 @@ fn try_plan(game: &[u8], plan: &[u8]) {
 // A game written again, into one buffer.
 fn rewrite_game(game: &[u8], out: &mut [u8]) {
     say(b"game");
-    say_written(game_trips::rewrite_game(game, out));
+    say_written(editions::rewrite_game(game, out));
     say_buffer(out);
 }
 

@@ -2,7 +2,7 @@
 pub mod values;
 pub mod verdicts;
 
-// The players' values over D0 × D1 × D2, their best values over D0 × the other's D, and D0, D1 and D2; a refusal is 1 to 16.
+// The players' values over D0 × D1 × D2, their best values over D0 × the other's D, and D0, D1 and D2; a refusal is 1 to 16 or 22.
 #[derive(Drop)]
 pub enum ValuesAnswer {
     Given {
@@ -18,7 +18,7 @@ pub enum ValuesAnswer {
 }
 
 // The verdict on a pair, with D0 × D1 × D2: accepted; or a player, 1 or 2, who can gain, his gain over it, and how many sets his strategy covers,
-// whose moves stand in the lent buffer; a refusal is 1 to 16, or 18.
+// whose moves stand in the lent buffer; a refusal is 1 to 16, 22 or 18.
 #[derive(Drop)]
 pub enum VerdictAnswer {
     Accepted {

@@ -3,6 +3,7 @@
 //! the reference implementation: nothing is taken from a run of a program.
 
 pub mod desk;
+pub mod editions;
 pub mod form;
 pub mod game;
 pub mod plan;
@@ -32,6 +33,7 @@ pub fn programs() -> Result<Vec<Program>, Refusal> {
         report::try_report()?,
         sheets::try_sheets()?,
         tolerance::try_tolerance()?,
+        editions::try_editions()?,
         responses::time_responses()?,
     ])
 }

@@ -90,7 +90,7 @@ impl Case {
         ["game", self.made.from()].map(|file| format!("{}/{file}.bin", self.name()))
     }
 
-    /// What is made, by the reference: 1 to 13 and 19 to 21, or 1 to 16.
+    /// What is made, by the reference: 1 to 13, 22 and 19 to 21, or 1 to 16 and 22.
     pub fn answer(&self) -> Result<Vec<u8>, Refusal> {
         match self.made {
             Made::Plan => plan_from_sheet(&self.game, &self.given, WIDTH, LARGEST),

@@ -12,6 +12,8 @@ mod plans;
 mod small;
 mod words;
 
+pub(crate) use lines::long_tables;
+
 use crate::program::Program;
 use crate::text::list;
 use generator::tables::GameTables;

@@ -14,6 +14,8 @@
 //!     valgrind --tool=callgrind --toggle-collect=counted_pass bench_CALL pass NAME VARIANT
 //! ```
 
+mod editions;
+
 use crate::samples::{slow_sources, sources, Pair, Sample, Source};
 use crate::timing::{best_of_all, Run};
 use crate::variants::{self, Variant};
@@ -130,7 +132,8 @@ impl<T: Clone + 'static> Bench<T> {
         for sample in named(word).map_err(refused)? {
             let mut counts = [0.0; variants::COUNT];
             for (count, variant) in counts.iter_mut().zip(variants::NAMES) {
-                *count = counted(&sample.name, variant)? / sample.pairs.len() as f64;
+                let pass = counted(&["pass", &sample.name, variant])?;
+                *count = pass / sample.pairs.len() as f64;
             }
             print_row(&sample.name, &counts, 0);
         }
@@ -193,14 +196,14 @@ fn counted_pass(run: &mut Run) {
     run();
 }
 
-/// The instructions of a pass of this very program.
-fn counted(sample: &str, variant: &str) -> Result<f64, Box<dyn Error>> {
+/// The instructions of a pass of this very program, by its arguments.
+fn counted(pass: &[&str]) -> Result<f64, Box<dyn Error>> {
     let mut valgrind = Command::new("valgrind");
     valgrind.envs(VECTOR_STORES);
     valgrind.args(["--tool=callgrind", "--callgrind-out-file=/dev/null"]);
     valgrind.arg(format!("--toggle-collect={COUNTED}"));
     valgrind.arg(env::current_exe()?);
-    let output = valgrind.args(["pass", sample, variant]).output();
+    let output = valgrind.args(pass).output();
     let output = output.map_err(|error| format!("valgrind: {error}"))?;
     let text = String::from_utf8(output.stderr)?;
     let count = text.lines().find_map(|line| line.split_once("Collected :"));

@@ -10,6 +10,7 @@ use generator::plans::even_plan;
 use generator::rng::Rng;
 use generator::shape::Shape;
 use generator::tables::GameTables;
+use reference::edition::{other_edition, own_sequences};
 use reference::game::{check_game, Player};
 use reference::limits::MOST_ENTRIES;
 use reference::plan::check_plan;
@@ -26,6 +27,7 @@ pub struct Files {
     sheet: Vec<u8>,
     root_weight: u64,
     fields: Buffers,
+    sequences: Vec<u64>,
     denominators: [u64; 2],
     weights: Vec<u64>,
 }
@@ -44,10 +46,17 @@ impl Files {
             sheet: sheet.bytes(WIDTH),
             root_weight: tables.root_weight,
             fields: Buffers::of(&tables.fields),
+            sequences: own_sequences(&game)?,
             denominators,
             weights: pair.weights.map(|list| list[1..].to_vec()).concat(),
             game,
         })
+    }
+
+    /// The same with its game in the other edition.
+    pub fn turned(self) -> Result<Files, Refusal> {
+        let game = other_edition(&self.game)?;
+        Ok(Files { game, ..self })
     }
 }
 
@@ -72,7 +81,7 @@ pub fn deepest_and_largest() -> Result<Vec<Files>, Refusal> {
 /// A name, and the call, which must take the files.
 pub type Named = (&'static str, fn(&Files) -> Result<(), Refusal>);
 
-pub const EXPORTS: [Named; 13] = [
+pub const EXPORTS: [Named; 16] = [
     ("desk_check_game", |files| {
         let _ = black_box(crate::check_game(&files.game)?);
         Ok(())
@@ -113,6 +122,15 @@ pub const EXPORTS: [Named; 13] = [
         let mut file = Output::with_room(MOST_BYTES);
         crate::write_game(files.root_weight, &files.fields, black_box(&mut file))
     }),
+    ("desk_write_game_2", |files| {
+        let mut file = Output::with_room(MOST_BYTES);
+        crate::edition::write_game_2(
+            files.root_weight,
+            &files.fields,
+            &files.sequences,
+            black_box(&mut file),
+        )
+    }),
     ("desk_write_plan", |files| {
         let [d1, d2] = files.denominators;
         let mut file = Output::with_room(MOST_BYTES);
@@ -125,5 +143,13 @@ pub const EXPORTS: [Named; 13] = [
     ("desk_sheet_from_plan", |files| {
         let mut file = Output::with_room(MOST_BYTES);
         crate::sheet::sheet_from_plan(&files.game, &files.plan, black_box(&mut file))
+    }),
+    ("desk_other_edition", |files| {
+        let mut file = Output::with_room(MOST_BYTES);
+        crate::edition::other_edition(&files.game, black_box(&mut file))
+    }),
+    ("desk_own_sequences", |files| {
+        let mut numbers = vec![0; MOST_ENTRIES];
+        crate::edition::own_sequences(&files.game, black_box(&mut numbers))
     }),
 ];

@@ -192,4 +192,55 @@ extern "C" {
         out_len: usize,
         size: *mut u64,
     ) -> u64;
+
+    /// Writes a game file of edition 2, from D0, all fields as `desk_game_fields` gives them and
+    /// the numbers that `desk_own_sequences` gives, and gives its length. It does not compare the
+    /// numbers with the tree.
+    pub fn desk_write_game_2(
+        root_weight: u64,
+        set_players: *const u64,
+        set_players_len: usize,
+        set_moves: *const u64,
+        set_moves_len: usize,
+        set_sequences: *const u64,
+        set_sequences_len: usize,
+        kinds: *const u64,
+        kinds_len: usize,
+        parents: *const u64,
+        parents_len: usize,
+        moves: *const u64,
+        moves_len: usize,
+        weights: *const u64,
+        weights_len: usize,
+        node_sets: *const u64,
+        node_sets_len: usize,
+        chance_moves: *const u64,
+        chance_moves_len: usize,
+        first_payoffs: *const i64,
+        first_payoffs_len: usize,
+        second_payoffs: *const i64,
+        second_payoffs_len: usize,
+        out: *mut u8,
+        out_len: usize,
+        size: *mut u64,
+    ) -> u64;
+
+    /// Turns a game file into the other edition, and gives its length: 5 + 4H + 8N bytes of a file
+    /// of edition 1, 5 + H + 8N of one of edition 2.
+    pub fn desk_other_edition(
+        game: *const u8,
+        game_len: usize,
+        out: *mut u8,
+        out_len: usize,
+        size: *mut u64,
+    ) -> u64;
+
+    /// The number of the own sequence leading to each set, among the sequences of the set's player,
+    /// for files of either edition: one entry a set.
+    pub fn desk_own_sequences(
+        game: *const u8,
+        game_len: usize,
+        numbers: *mut u64,
+        numbers_len: usize,
+    ) -> u64;
 }

@@ -30,7 +30,7 @@ pub struct Values {
     pub weights: [u64; 3],
 }
 
-/// The payoff table into lent buffers: 1 to 13, then 18.
+/// The payoff table into lent buffers: 1 to 13, 22, then 18.
 pub fn payoff_table(game: &[u8], buffers: &mut TableBuffers) -> Result<(), Refusal> {
     let [sequence1, sequence2] = &mut buffers.sequences;
     let [sum1, sum2] = &mut buffers.sums;
@@ -52,7 +52,7 @@ pub fn payoff_table(game: &[u8], buffers: &mut TableBuffers) -> Result<(), Refus
     answer(number)
 }
 
-/// Values and best values of a plan pair: 1 to 16.
+/// Values and best values of a plan pair: 1 to 13, 22, 14 to 16.
 pub fn values(game: &[u8], plan: &[u8], out: &mut Values) -> Result<(), Refusal> {
     let [value1, value2] = &mut out.values;
     let [best1, best2] = &mut out.bests;

@@ -4,9 +4,11 @@
 
 pub mod bench;
 pub mod drawn;
+pub mod edition;
 pub mod every_export;
 pub mod expected;
 pub mod form;
+pub mod lent;
 pub mod listing;
 pub mod plain;
 pub mod program;
@@ -22,7 +24,7 @@ mod exports;
 
 use reference::writer::Fields;
 
-/// A refusal of document 01 or 02, 1 to 21.
+/// A refusal of document 01 or 02, 1 to 22.
 pub type Refusal = u8;
 
 /// N, H and D0 of an accepted game.
@@ -102,11 +104,11 @@ fn answer(number: u64) -> Result<(), Refusal> {
     match u8::try_from(number) {
         Ok(0) => Ok(()),
         Ok(refusal) => Err(refusal),
-        Err(_) => unreachable!("a refusal is at most 21"),
+        Err(_) => unreachable!("a refusal is at most 22"),
     }
 }
 
-/// Checks 1 to 13.
+/// Checks 1 to 13 and 22.
 pub fn check_game(game: &[u8]) -> Result<Counts, Refusal> {
     let mut counts = Counts {
         nodes: 0,
@@ -125,7 +127,7 @@ pub fn check_game(game: &[u8]) -> Result<Counts, Refusal> {
     answer(number).map(|()| counts)
 }
 
-/// All fields of a game into lent buffers: 1 to 13, then 18.
+/// All fields of a game into lent buffers: 1 to 13, 22, then 18.
 pub fn game_fields(game: &[u8], buffers: &mut Buffers) -> Result<(), Refusal> {
     let [payoffs1, payoffs2] = &mut buffers.payoffs;
     let number = unsafe {
@@ -157,7 +159,7 @@ pub fn game_fields(game: &[u8], buffers: &mut Buffers) -> Result<(), Refusal> {
     answer(number)
 }
 
-/// D1, D2 and all weights of a plan, in file order: 1 to 16, then 18.
+/// D1, D2 and all weights of a plan, in file order: 1 to 13, 22, 14 to 16, then 18.
 pub fn plan_fields(game: &[u8], plan: &[u8], buffers: &mut PlanBuffers) -> Result<(), Refusal> {
     let number = unsafe {
         exports::desk_plan_fields(

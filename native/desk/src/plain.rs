@@ -34,7 +34,7 @@ fn require(holds: bool, refusal: Refusal) -> Result<(), Refusal> {
     }
 }
 
-/// Checks 1 to 13.
+/// Checks 1 to 13 and 22.
 pub fn check_game<R: Reader>(game: &[u8]) -> Result<Counts, Refusal> {
     let mut loaded = Loaded::new();
     loaded.check::<R>(game)?;

@@ -2,7 +2,7 @@
 
 use crate::{answer, exports, Output, Refusal};
 
-/// The text for two files that are not sent back: 1 to 16, then 18.
+/// The text for two files that are not sent back: 1 to 13, 22, 14 to 16, then 18.
 pub fn report(game: &[u8], plan: &[u8], out: &mut Output) -> Result<(), Refusal> {
     let number = unsafe {
         exports::desk_report(

@@ -9,6 +9,7 @@ use generator::shape::{random_count, Growth, Payoffs, Shape};
 use generator::sheets::sheet_of;
 use generator::slow::{slow_games_of_full_size, Named};
 use generator::tables::GameTables;
+use reference::edition::other_edition;
 use reference::limits::MOST_ENTRIES;
 use reference::plan::check_plan;
 
@@ -35,12 +36,32 @@ impl Pair {
         let sheet = sheet.bytes(&accepted)?;
         Ok(Pair { game, plan, sheet })
     }
+
+    /// The same with its game in the other edition.
+    pub fn turned(&self) -> Result<Pair, Refusal> {
+        Ok(Pair {
+            game: other_edition(&self.game)?,
+            plan: self.plan.clone(),
+            sheet: self.sheet.clone(),
+        })
+    }
 }
 
 /// Pairs alike in size and kind.
 pub struct Sample {
     pub name: String,
     pub pairs: Vec<Pair>,
+}
+
+impl Sample {
+    /// The same with its games in the other edition.
+    pub fn turned(&self) -> Result<Sample, Refusal> {
+        let pairs: Result<Vec<Pair>, Refusal> = self.pairs.iter().map(Pair::turned).collect();
+        Ok(Sample {
+            name: self.name.clone(),
+            pairs: pairs?,
+        })
+    }
 }
 
 /// A sample that is still to be drawn, from a seed of its own.

@@ -3,7 +3,7 @@
 use crate::{answer, exports, Refusal};
 
 /// Whether no strategy gains more than so many thousandths of a payoff point, 1 for yes and 0 for
-/// no: 1 to 16.
+/// no: 1 to 13, 22, 14 to 16.
 pub fn tolerates(
     game: &[u8],
     plan: &[u8],

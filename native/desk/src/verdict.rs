@@ -26,7 +26,7 @@ impl VerdictBuffers {
     }
 }
 
-/// The verdict on a plan pair: 1 to 16, then 18.
+/// The verdict on a plan pair: 1 to 13, 22, 14 to 16, then 18.
 pub fn verdict(game: &[u8], plan: &[u8], buffers: &mut VerdictBuffers) -> Result<(), Refusal> {
     let number = unsafe {
         exports::desk_verdict(

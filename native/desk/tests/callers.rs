@@ -3,8 +3,11 @@
 
 use desk::drawn::draw;
 use desk::program::{printed, Folder};
+use generator::large::{longest_file, most_sets_of_one};
 use generator::named::{plan_m, study_game};
+use generator::plans::even_plan;
 use generator::rng::Rng;
+use reference::edition::other_edition;
 use reference::game::check_game;
 use reference::plan::check_plan;
 use reference::verdict::{verdict, Verdict};
@@ -87,6 +90,10 @@ fn compare_all(program: &Path) {
     compare(&long, &m);
     compare(&study, &long);
     compare(&study, &[]);
+    compare(&other_edition(&study).unwrap(), &m);
+    for [game, plan] in long_pairs() {
+        compare(&game, &plan);
+    }
     let mut rng = Rng::new(7);
     let mut tried = 0;
     while tried < PAIRS {
@@ -96,6 +103,22 @@ fn compare_all(program: &Path) {
         }
     }
     compare_examples(program);
+}
+
+/// As long as files of edition 2 are: the longest that is accepted with a plan, one that has every
+/// set that its header can count, and each with a byte more than any sound file has.
+fn long_pairs() -> [[Vec<u8>; 2]; 4] {
+    let most = other_edition(&most_sets_of_one().bytes().unwrap()).unwrap();
+    let plan = even_plan(&check_game(&most).unwrap(), [4_095, 4_094]);
+    let plan = plan.bytes().unwrap();
+    let longest = longest_file().unwrap();
+    let longer = |file: &[u8]| {
+        let mut file = file.to_vec();
+        file.resize(longest.len() + 1, 0);
+        file
+    };
+    let games = [longer(&most), longer(&longest), most, longest.clone()];
+    games.map(|game| [game, plan.clone()])
 }
 
 fn compare_examples(program: &Path) {

@@ -2,6 +2,7 @@
 
 use crate::edit::{get_bits, NODES, SETS};
 use crate::rng::Rng;
+use reference::edition::{edition_of, Edition};
 
 /// One of the ways below to damage a file, drawn at random.
 pub fn random_damage(rng: &mut Rng, file: &[u8]) -> Vec<u8> {
@@ -58,12 +59,25 @@ pub fn extend(rng: &mut Rng, file: &[u8]) -> Vec<u8> {
 
 /// Swaps two node records of a game file, as far as it has them.
 pub fn swap_records(rng: &mut Rng, file: &[u8]) -> Vec<u8> {
-    let nodes = get_bits(file, NODES) as usize;
-    let first_record = 5 + get_bits(file, SETS) as usize;
-    let places = [rng.below(nodes), rng.below(nodes)].map(|node| first_record + 8 * node);
+    let edition = edition_of(file).unwrap_or(Edition::One);
+    let [nodes, sets] = [NODES, SETS].map(|count| get_bits(file, count) as usize);
+    let places = [rng.below(nodes), rng.below(nodes)].map(|node| edition.record_at(sets, node));
+    swap_bytes(file, places, 8)
+}
+
+/// Swaps two set entries of a game file likewise.
+pub fn swap_entries(rng: &mut Rng, file: &[u8]) -> Vec<u8> {
+    let edition = edition_of(file).unwrap_or(Edition::One);
+    let sets = get_bits(file, SETS) as usize;
+    let places = [rng.below(sets), rng.below(sets)].map(|set| edition.entry_at(set));
+    swap_bytes(file, places, edition.entry_bytes())
+}
+
+/// Swaps so many bytes at two places, as far as the file has them.
+fn swap_bytes(file: &[u8], places: [usize; 2], count: usize) -> Vec<u8> {
     let mut damaged = file.to_vec();
-    if places.iter().all(|place| place + 8 <= file.len()) {
-        for byte in 0..8 {
+    if places.iter().all(|place| place + count <= file.len()) {
+        for byte in 0..count {
             damaged.swap(places[0] + byte, places[1] + byte);
         }
     }

@@ -1,5 +1,7 @@
 //! Single fields of game and plan files, read and changed in place.
 
+use reference::edition::Edition;
+
 /// A run of bits: where it begins and how wide it is.
 #[derive(Clone, Copy, Debug, PartialEq, Eq)]
 pub struct Field {
@@ -22,6 +24,14 @@ pub const D1: Field = field(4, 12);
 pub const D2: Field = field(16, 12);
 pub const PLAN_ZEROS: Field = field(28, 4);
 
+/// Within a set entry.
+pub const SET_PLAYER: Field = field(0, 1);
+pub const SET_MOVES: Field = field(1, 7);
+
+/// The same, of edition 2 alone.
+pub const SET_SEQUENCE: Field = field(8, 12);
+pub const SET_ZEROS: Field = field(20, 12);
+
 /// Within a node record.
 pub const KIND: Field = field(0, 2);
 pub const PARENT: Field = field(2, 12);
@@ -34,20 +44,34 @@ pub const DECISION_ZEROS: Field = field(44, 20);
 pub const CHANCE_MOVES: Field = field(32, 7);
 pub const CHANCE_ZEROS: Field = field(39, 25);
 
-/// A set entry's player, in a file that has the set.
-pub fn set_player(set: usize) -> Field {
-    field(40 + 8 * set, 1)
+/// A field of what begins at a byte.
+fn field_at(byte: usize, within: Field) -> Field {
+    field(8 * byte + within.position, within.width)
 }
 
-/// A set entry's move count.
-pub fn set_moves(set: usize) -> Field {
-    field(40 + 8 * set + 1, 7)
+/// A field of a set entry, in a file that has the set.
+pub fn set_field(edition: Edition, set: usize, within: Field) -> Field {
+    field_at(edition.entry_at(set), within)
 }
 
 /// A field of a node record, in a file of `sets` sets.
+pub fn record_field(edition: Edition, sets: usize, node: usize, within: Field) -> Field {
+    field_at(edition.record_at(sets, node), within)
+}
+
+/// A set entry's player, in edition 1.
+pub fn set_player(set: usize) -> Field {
+    set_field(Edition::One, set, SET_PLAYER)
+}
+
+/// A set entry's move count, in edition 1.
+pub fn set_moves(set: usize) -> Field {
+    set_field(Edition::One, set, SET_MOVES)
+}
+
+/// A field of a node record, in edition 1.
 pub fn node_field(sets: usize, node: usize, within: Field) -> Field {
-    let record = 40 + 8 * sets + 64 * node;
-    field(record + within.position, within.width)
+    record_field(Edition::One, sets, node, within)
 }
 
 /// The weight at a place of a plan file's list.

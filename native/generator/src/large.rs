@@ -1,8 +1,10 @@
 //! Games of 4,095 nodes, and the longest file.
 
 use crate::tables::{GameTables, Place};
+use reference::edition::own_sequences;
 use reference::game::Player;
 use reference::limits;
+use reference::Refusal;
 
 const LONGEST_PATH: u64 = limits::LONGEST_PATH as u64;
 const COMB_MOVES: u64 = 16;
@@ -47,14 +49,22 @@ pub fn most_sets() -> GameTables {
     tables
 }
 
-/// The same with sets that no node is in, 4,095 sets in all: no legal file is
-/// longer.
+/// The same with sets that no node is in, 4,095 sets in all: no file of edition 1
+/// that passes check 4 is longer.
 pub fn most_bytes() -> GameTables {
     let mut tables = most_sets();
     while tables.fields.players.len() < limits::MOST_ENTRIES {
         tables.add_set(Player::Two, 64);
     }
     tables
+}
+
+/// The same as a file of edition 2, with 0 for the sets that no node is in: no file
+/// that passes check 4 is longer.
+pub fn longest_file() -> Result<Vec<u8>, Refusal> {
+    let mut sequences = own_sequences(&most_sets().bytes()?)?;
+    sequences.resize(limits::MOST_ENTRIES, 0);
+    most_bytes().bytes_2(&sequences)
 }
 
 /// 4,095 nodes, of which all but 17 are decisions of player 1 in sets of their own: 17 moves at

@@ -5,6 +5,7 @@
 pub mod aim;
 pub mod damage;
 pub mod edit;
+pub mod editions;
 pub mod fields;
 pub mod games;
 pub mod large;

@@ -1,10 +1,11 @@
 //! A game, a plan pair and a play sheet in the making, as the writers take them.
 
 use reference::bits::fits;
+use reference::edition::Edition;
 use reference::game::{Game, Player};
 use reference::plan::Plan;
 use reference::sheet::{sheet_bytes, WIDTH};
-use reference::writer::{fields_of, write_game, write_plan, Fields};
+use reference::writer::{fields_of, write_game, write_game_2, write_plan, Fields};
 use reference::Refusal;
 
 /// D0 with the tables of a game.
@@ -59,6 +60,18 @@ impl GameTables {
         self.fields.players.len() as u64 - 1
     }
 
+    /// Puts a set that no node is in before the set of this number.
+    pub fn insert_set(&mut self, place: usize, player: Player, moves: u64) {
+        let fields = &mut self.fields;
+        fields.players.insert(place, player.index() as u64);
+        fields.set_moves.insert(place, moves);
+        for (set, &kind) in fields.sets.iter_mut().zip(&fields.kinds) {
+            if kind == 1 && *set >= place as u64 {
+                *set += 1;
+            }
+        }
+    }
+
     /// Adds a leaf and gives its number.
     pub fn add_leaf(&mut self, place: Place, payoffs: [i64; 2]) -> u64 {
         self.add_node(place, 0, payoffs, 0, 0)
@@ -74,12 +87,23 @@ impl GameTables {
         self.add_node(place, 2, [0, 0], 0, moves)
     }
 
-    /// The game file, or 17 where a number does not fit.
+    /// The game file of edition 1, or 17 where a number does not fit.
     pub fn bytes(&self) -> Result<Vec<u8>, Refusal> {
-        let length = 5 + self.fields.players.len() + 8 * self.fields.kinds.len();
-        let mut buffer = vec![0; length];
+        let mut buffer = self.room(Edition::One);
         write_game(self.root_weight, &self.fields, &mut buffer)?;
         Ok(buffer)
+    }
+
+    /// The same in edition 2, with these own sequence numbers.
+    pub fn bytes_2(&self, sequences: &[u64]) -> Result<Vec<u8>, Refusal> {
+        let mut buffer = self.room(Edition::Two);
+        write_game_2(self.root_weight, &self.fields, sequences, &mut buffer)?;
+        Ok(buffer)
+    }
+
+    /// As many bytes as the file of an edition has.
+    fn room(&self, edition: Edition) -> Vec<u8> {
+        vec![0; edition.file_length(self.fields.players.len(), self.fields.kinds.len())]
     }
 
     fn add_node(

@@ -1,9 +1,10 @@
 //! A plain reading of document 01, kept clear rather than fast: game and plan
 //! files, the sequence form, the verdict and the desk program's text; and of
-//! document 02: play sheets, house tolerance.
+//! document 02: play sheets, house tolerance, game edition 2.
 
 pub mod bits;
 pub mod brute;
+pub mod edition;
 pub mod form;
 pub mod game;
 pub mod limits;
@@ -14,7 +15,7 @@ pub mod tolerance;
 pub mod verdict;
 pub mod writer;
 
-/// The number of the first rule that sends an input back, 1 to 21.
+/// The number of the first rule that sends an input back, 1 to 22.
 pub type Refusal = u8;
 
 /// Gives `refusal` unless `rule_holds`.

@@ -173,7 +173,8 @@ fn read_file(game: &Game, file: &[u8], width: usize) -> Option<(Vec<Vec<u64>>, u
     Some((odds, filling))
 }
 
-/// Makes a plan file from a sheet, with D1 and D2 up to `limit`: 1 to 13, then 19 to 21.
+/// Makes a plan file from a sheet, with D1 and D2 up to `limit`: 1 to 13, 22, then 19
+/// to 21.
 pub fn plan_from_sheet(
     game_file: &[u8],
     sheet_file: &[u8],
@@ -184,7 +185,7 @@ pub fn plan_from_sheet(
     check_sheet(&game, sheet_file, width)?.plan_file(limit)
 }
 
-/// Makes a sheet from a plan file: 1 to 16.
+/// Makes a sheet from a plan file: 1 to 13, 22, then 14 to 16.
 pub fn sheet_from_plan(
     game_file: &[u8],
     plan_file: &[u8],

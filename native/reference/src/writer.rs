@@ -1,11 +1,13 @@
 //! Writers of game and plan files, and the fields of an accepted game.
 
 use crate::bits::{fits, to_twos_complement, BitWriter};
+use crate::edition::Edition;
 use crate::game::{Game, Kind};
 use crate::limits::MOST_ENTRIES;
 use crate::{deliver, require, Refusal};
 
-const EDITION: u64 = 1;
+/// The edition of a plan file.
+const PLAN_EDITION: u64 = 1;
 
 /// The tables of a game as lists side by side, one entry for each set or node.
 /// A number that a node's kind lacks is given as 0.
@@ -28,22 +30,37 @@ pub struct Fields {
     pub chance_moves: Vec<u64>,
 }
 
-/// Writes a game file to the front of `buffer` and gives its length; 17 where
-/// the fields do not fit, then 18.
+/// Writes a game file of edition 1 to the front of `buffer` and gives its length;
+/// 17 where the fields do not fit, then 18.
 pub fn write_game(root_weight: u64, fields: &Fields, buffer: &mut [u8]) -> Result<usize, Refusal> {
     check_lengths(fields)?;
     let mut writer = BitWriter::new();
-    writer.write(EDITION, 4);
-    writer.write(fields.kinds.len() as u64, 12);
-    writer.write(fields.players.len() as u64, 12);
-    put(&mut writer, root_weight, 12)?;
-    for (&player, &moves) in fields.players.iter().zip(&fields.set_moves) {
-        put(&mut writer, player, 1)?;
-        put(&mut writer, moves, 7)?;
+    write_header(&mut writer, Edition::One, root_weight, fields)?;
+    for set in 0..fields.players.len() {
+        write_set(&mut writer, fields, set)?;
     }
-    for node in 0..fields.kinds.len() {
-        write_node(&mut writer, fields, node)?;
+    write_nodes(&mut writer, fields)?;
+    deliver(&writer.into_bytes(), buffer)
+}
+
+/// The same in edition 2, with an own sequence number for each set, whatever the
+/// tree gives.
+pub fn write_game_2(
+    root_weight: u64,
+    fields: &Fields,
+    sequences: &[u64],
+    buffer: &mut [u8],
+) -> Result<usize, Refusal> {
+    check_lengths(fields)?;
+    require(sequences.len() == fields.players.len(), 17)?;
+    let mut writer = BitWriter::new();
+    write_header(&mut writer, Edition::Two, root_weight, fields)?;
+    for (set, &sequence) in sequences.iter().enumerate() {
+        write_set(&mut writer, fields, set)?;
+        put(&mut writer, sequence, 12)?;
+        writer.write(0, 12);
     }
+    write_nodes(&mut writer, fields)?;
     deliver(&writer.into_bytes(), buffer)
 }
 
@@ -51,7 +68,7 @@ pub fn write_game(root_weight: u64, fields: &Fields, buffer: &mut [u8]) -> Resul
 /// a number does not fit, then 18. The weights are one list in file order.
 pub fn write_plan(d1: u64, d2: u64, weights: &[u64], buffer: &mut [u8]) -> Result<usize, Refusal> {
     let mut writer = BitWriter::new();
-    writer.write(EDITION, 4);
+    writer.write(PLAN_EDITION, 4);
     put(&mut writer, d1, 12)?;
     put(&mut writer, d2, 12)?;
     writer.write(0, 4);
@@ -102,6 +119,28 @@ fn check_lengths(fields: &Fields) -> Result<(), Refusal> {
     require(fields.set_moves.len() == sets, 17)?;
     require(node_lists.iter().all(|&length| length == nodes), 17)?;
     require(sets <= MOST_ENTRIES && nodes <= MOST_ENTRIES, 17)
+}
+
+fn write_header(
+    writer: &mut BitWriter,
+    edition: Edition,
+    root_weight: u64,
+    fields: &Fields,
+) -> Result<(), Refusal> {
+    writer.write(edition.number(), 4);
+    writer.write(fields.kinds.len() as u64, 12);
+    writer.write(fields.players.len() as u64, 12);
+    put(writer, root_weight, 12)
+}
+
+/// Writes what the entries of both editions have.
+fn write_set(writer: &mut BitWriter, fields: &Fields, set: usize) -> Result<(), Refusal> {
+    put(writer, fields.players[set], 1)?;
+    put(writer, fields.set_moves[set], 7)
+}
+
+fn write_nodes(writer: &mut BitWriter, fields: &Fields) -> Result<(), Refusal> {
+    (0..fields.kinds.len()).try_for_each(|node| write_node(writer, fields, node))
 }
 
 /// Writes one record; the lists must be of one length.

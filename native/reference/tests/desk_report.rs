@@ -64,7 +64,8 @@ fn extreme_payoffs_are_shown_in_full() {
 #[test]
 fn refusals_are_one_line() {
     assert_eq!(report(&[], &[]), "refusal 1\n");
-    assert_eq!(report(&[0x20, 0, 0, 0, 0], &[]), "refusal 2\n");
+    assert_eq!(report(&[0x30, 0, 0, 0, 0], &[]), "refusal 2\n");
+    assert_eq!(report(&[0x20, 0, 0, 0, 0], &[]), "refusal 3\n");
     let game = lottery(&[(1, [0, 0])]);
     assert_eq!(report(&game, &[]), "refusal 14\n");
     assert_eq!(report(&game, &[0x20, 0x01, 0x00, 0x10]), "refusal 15\n");

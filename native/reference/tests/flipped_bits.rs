@@ -1,7 +1,8 @@
-//! Each bit of the study game's file and of plan M's flipped by itself. What is
-//! expected is read off document 01: its fields and the order of its checks.
+//! Each bit of the study game's file, in both editions, and of plan M's flipped by itself. What
+//! is expected is read off the documents: their fields and the order of their checks.
 
 use generator::named::{plan_m, study_game};
+use reference::edition::other_edition;
 use reference::game::check_game;
 use reference::plan::check_plan;
 use reference::report::report;
@@ -24,8 +25,18 @@ fn game_answer(bit: usize) -> u8 {
     }
 }
 
+/// The same in edition 2.
+fn game_answer_2(bit: usize) -> u8 {
+    match bit {
+        0..=39 => header_answer(bit),
+        40..=135 => set_answer_2((bit - 40) / 32, (bit - 40) % 32),
+        _ => record_answer((bit - 136) / 64, (bit - 136) % 64),
+    }
+}
+
 fn header_answer(bit: usize) -> u8 {
     match bit {
+        // 0, 3, 5, 9, or 6 and 10 from edition 2.
         0..=3 => 2,
         // N or H: the length fits no longer.
         4..=27 => 4,
@@ -46,6 +57,16 @@ fn set_answer(set: usize, bit: usize) -> u8 {
         (_, 1 | 6) => 5,
         // 34, 18, 10, 6 or 3 moves, of which two have a node.
         _ => 9,
+    }
+}
+
+fn set_answer_2(set: usize, bit: usize) -> u8 {
+    match (set, bit) {
+        // Player 2 at the root: player 1 moves in set 2 without having moved before.
+        (0, 0) => 22,
+        (_, 0..=7) => set_answer(set, bit),
+        (_, 8..=19) => 22,
+        _ => 5,
     }
 }
 
@@ -122,6 +143,26 @@ fn every_bit_of_the_study_game_may_flip() {
     for bit in 0..640 {
         let answer = check_game(&flipped(&game_file, bit)).err();
         assert_eq!(answer.unwrap_or(0), game_answer(bit), "bit {bit}");
+    }
+}
+
+#[test]
+fn every_bit_of_the_study_game_in_edition_2_may_flip() {
+    let game_file = other_edition(&study_game().bytes().unwrap()).unwrap();
+    let plan_file = plan_m().bytes().unwrap();
+    assert_eq!(game_file.len(), 89);
+    for bit in 0..712 {
+        let damaged = flipped(&game_file, bit);
+        let (answer, wanted) = (check_game(&damaged).err(), game_answer_2(bit));
+        assert_eq!(answer.unwrap_or(0), wanted, "bit {bit}");
+        let expected = match wanted {
+            0 => "value 1 ".to_string(),
+            refusal => format!("refusal {refusal}\n"),
+        };
+        assert!(
+            report(&damaged, &plan_file).starts_with(&expected),
+            "bit {bit}"
+        );
     }
 }
 

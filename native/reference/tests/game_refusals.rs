@@ -1,4 +1,4 @@
-//! Refusals 1 to 13, each by files made for it.
+//! Refusals 1 to 13, each by files of edition 1 made for it.
 
 use generator::edit::*;
 use generator::named::{long_path, study_game};
@@ -41,8 +41,8 @@ fn a_file_below_five_bytes_gets_1() {
 }
 
 #[test]
-fn another_edition_gets_2() {
-    for edition in (0..16).filter(|&edition| edition != 1) {
+fn neither_edition_gets_2() {
+    for edition in (0..16).filter(|edition| ![1, 2].contains(edition)) {
         assert_eq!(study_refusal(EDITION, edition), 2);
     }
 }

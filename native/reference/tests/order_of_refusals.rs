@@ -1,6 +1,6 @@
-//! Where several rules are broken at once, the lowest number is given.
+//! Where several rules are broken at once, the first in the documents' order is given.
 
-use generator::aim::{aim_at_game, aim_at_plan};
+use generator::aim::{aim_at_game, aim_at_game_2, aim_at_plan};
 use generator::edit::*;
 use generator::games::random_game;
 use generator::named::{long_path, plan_m, set_below_itself, study_game};
@@ -8,87 +8,133 @@ use generator::plans::random_plan;
 use generator::rng::Rng;
 use generator::shape::Shape;
 use generator::tables::{GameTables, PlanWeights};
-use reference::game::{check_game, Player};
+use reference::edition::{edition_of, Edition};
+use reference::game::{check_game, Game, Player};
 use reference::plan::check_plan;
 use reference::report::report;
-use reference::writer::{write_game, write_plan};
+use reference::writer::{write_game, write_game_2, write_plan};
+use reference::Refusal;
 
 fn refusal(file: &[u8]) -> u8 {
     check_game(file).err().unwrap_or(0)
 }
 
-/// A node that satisfies `wanted`, given its kind and number.
-fn find_node(file: &[u8], wanted: impl Fn(u64, usize) -> bool) -> Option<usize> {
-    let sets = get_bits(file, SETS) as usize;
-    let nodes = get_bits(file, NODES) as usize;
-    let mut numbers = (0..nodes).rev();
-    numbers.find(|&node| wanted(get_bits(file, node_field(sets, node, KIND)), node))
+/// A file with what is known of it from its header.
+struct Framed<'a> {
+    file: &'a [u8],
+    edition: Edition,
+    sets: usize,
+    nodes: usize,
+}
+
+impl Framed<'_> {
+    fn of(file: &[u8]) -> Framed<'_> {
+        Framed {
+            file,
+            edition: edition_of(file).unwrap_or(Edition::One),
+            sets: get_bits(file, SETS) as usize,
+            nodes: get_bits(file, NODES) as usize,
+        }
+    }
+
+    fn node(&self, node: usize, within: Field) -> Field {
+        record_field(self.edition, self.sets, node, within)
+    }
+
+    fn set_moves(&self, set: usize) -> Field {
+        set_field(self.edition, set, SET_MOVES)
+    }
+
+    /// The last node that satisfies `wanted`, given its kind and number.
+    fn find_node(&self, wanted: impl Fn(u64, usize) -> bool) -> Option<usize> {
+        let mut numbers = (0..self.nodes).rev();
+        numbers.find(|&node| wanted(get_bits(self.file, self.node(node, KIND)), node))
+    }
+
+    /// The set of the last decision.
+    fn last_set(&self) -> Option<usize> {
+        let decision = self.find_node(|kind, _| kind == 1)?;
+        Some(get_bits(self.file, self.node(decision, DECISION_SET)) as usize)
+    }
 }
 
 /// Breaks one of rules 1 to 10 in a file that keeps the rules up to it, or
 /// gives nothing where the file has no place for that.
-fn with_broken_rule(file: &[u8], rule: u8) -> Option<Vec<u8>> {
-    let mut broken = file.to_vec();
-    let sets = get_bits(file, SETS) as usize;
-    let decision = find_node(file, |kind, _| kind == 1);
-    let set_of = |node| get_bits(file, node_field(sets, node, DECISION_SET)) as usize;
+fn with_broken_rule(file: &[u8], rule: Refusal) -> Option<Vec<u8>> {
+    let framed = Framed::of(file);
+    let last_entry = framed.sets.checked_sub(1);
     let (field, value) = match rule {
         1 => return Some(file[..4].to_vec()),
-        2 => (EDITION, 2),
+        2 => (EDITION, 3),
         3 => (ROOT_WEIGHT, 0),
         4 => return Some([file, &[0]].concat()),
-        5 => (set_moves(sets.checked_sub(1)?), 65),
+        5 => match framed.edition {
+            Edition::One => (set_moves(last_entry?), 65),
+            Edition::Two => (set_field(Edition::Two, last_entry?, SET_ZEROS), 1),
+        },
         6 => {
-            let last = find_node(file, |_, _| true)?;
-            (node_field(sets, last, KIND), 3)
+            let last = framed.find_node(|_, _| true)?;
+            (framed.node(last, KIND), 3)
         }
-        7 => (node_field(sets, decision?, DECISION_SET), 4_095),
+        7 => {
+            let decision = framed.find_node(|kind, _| kind == 1)?;
+            (framed.node(decision, DECISION_SET), 4_095)
+        }
         8 => {
-            let last = find_node(file, |_, node| node > 0)?;
-            (node_field(sets, last, PARENT), last as u64)
+            let last = framed.find_node(|_, node| node > 0)?;
+            (framed.node(last, PARENT), last as u64)
         }
         9 => {
-            let field = set_moves(set_of(decision?));
+            let field = framed.set_moves(framed.last_set()?);
             let moves = get_bits(file, field);
             (field, (moves < 64).then_some(moves + 1)?)
         }
         10 => {
-            let last = find_node(file, |_, _| true)?;
-            (node_field(sets, last, WEIGHT), 0)
+            let last = framed.find_node(|_, _| true)?;
+            (framed.node(last, WEIGHT), 0)
         }
         _ => return None,
     };
-    put_bits(&mut broken, field, value);
-    Some(broken)
+    Some(changed(file, field, value))
 }
 
-#[test]
-fn of_any_two_broken_rules_of_a_game_the_lower_is_given() {
-    let mut rng = Rng::new(41);
-    let mut met = [[0; 14]; 14];
+/// Makes a file for a refusal.
+type Aim = fn(&mut Rng, &Game, Refusal) -> Option<Vec<u8>>;
+
+/// Breaks any two of these rules, which are in order, at once.
+fn compare_two_rules(seed: u64, rules: &[Refusal], aim: Aim) {
+    let mut rng = Rng::new(seed);
+    let mut met = [[0; 23]; 23];
     for _ in 0..300 {
         let shape = Shape::random(&mut rng, 60, 6);
         let file = random_game(&mut rng, &shape).bytes().unwrap();
         let game = check_game(&file).unwrap();
-        for upper in 2..=13 {
-            let Some(damaged) = aim_at_game(&mut rng, &game, upper) else {
+        for (place, &upper) in rules.iter().enumerate().skip(1) {
+            let Some(damaged) = aim(&mut rng, &game, upper) else {
                 continue;
             };
             assert_eq!(refusal(&damaged), upper);
-            for lower in 1..upper {
+            for &lower in &rules[..place] {
                 if let Some(both) = with_broken_rule(&damaged, lower) {
                     assert_eq!(refusal(&both), lower, "{lower} before {upper}");
-                    met[lower as usize][upper as usize] += 1;
+                    met[usize::from(lower)][usize::from(upper)] += 1;
                 }
             }
         }
     }
-    for (lower, counts) in met.iter().enumerate().take(11).skip(1) {
-        assert!(
-            counts[lower + 1..].iter().all(|&count| count > 0),
-            "{lower}"
-        );
+    for (place, &lower) in rules.iter().enumerate().take(10) {
+        let mut uppers = rules[place + 1..].iter();
+        let met = |&upper: &Refusal| met[usize::from(lower)][usize::from(upper)] > 0;
+        assert!(uppers.all(met), "{lower}");
     }
+}
+
+#[test]
+fn of_any_two_broken_rules_of_a_game_the_first_is_given() {
+    let mut rules: Vec<Refusal> = (1..=13).collect();
+    compare_two_rules(41, &rules, aim_at_game);
+    rules.push(22);
+    compare_two_rules(43, &rules, aim_at_game_2);
 }
 
 /// The rule named first is broken late in the file, the other one early.
@@ -177,8 +223,19 @@ fn a_field_comes_before_the_buffer() {
     let mut tables: GameTables = study_game();
     let mut short = [0xaa; 79];
     assert_eq!(write_game(1, &tables.fields, &mut short), Err(18));
+    let sequences = [0, 0, 1];
+    let mut short_2 = [0xaa; 88];
+    let written = write_game_2(1, &tables.fields, &sequences, &mut short_2);
+    assert_eq!(written, Err(18));
+    let written = write_game_2(1, &tables.fields, &[0, 0, 4_096], &mut short_2);
+    assert_eq!(written, Err(17));
+    let written = write_game_2(1, &tables.fields, &sequences[1..], &mut short_2);
+    assert_eq!(written, Err(17));
     tables.fields.moves[8] = 64;
     assert_eq!(write_game(1, &tables.fields, &mut short), Err(17));
+    let written = write_game_2(1, &tables.fields, &sequences, &mut short_2);
+    assert_eq!(written, Err(17));
+    assert_eq!(short_2, [0xaa; 88]);
     let pair: PlanWeights = plan_m();
     assert_eq!(write_plan(3, 3, &pair.weights[1], &mut [0; 4]), Err(18));
     assert_eq!(write_plan(3, 4_096, &pair.weights[1], &mut [0; 4]), Err(17));

@@ -1,5 +1,6 @@
 //! The writers: refusals 17 and 18, what they leave alone, and round trips.
 
+use generator::fields::{fitting_fields, refused_fields};
 use generator::games::random_game;
 use generator::named::{plan_m, study_game, wide_chance};
 use generator::plans::random_plan;
@@ -7,9 +8,10 @@ use generator::poker::kuhn;
 use generator::rng::Rng;
 use generator::shape::{random_count, Shape};
 use generator::tables::{GameTables, PlanWeights};
+use reference::edition::sequences_of;
 use reference::game::{check_game, Player};
 use reference::plan::check_plan;
-use reference::writer::{fields_of, write_game, write_plan, Fields};
+use reference::writer::{fields_of, write_game, write_game_2, write_plan, Fields};
 
 const UNTOUCHED: u8 = 0xa5;
 
@@ -150,9 +152,64 @@ fn writers_test_17_and_18_only() {
     assert_eq!(tables.bytes(), Ok(vec![0x10, 0, 0, 0, 0]));
     tables.add_set(Player::Two, 127);
     assert_eq!(tables.bytes(), Ok(vec![0x10, 0, 0, 0x10, 0, 0xff]));
+    let entry = [0xff, 0xff, 0xf0, 0x00];
+    let file = [&[0x20, 0, 0, 0x10, 0][..], &entry].concat();
+    assert_eq!(tables.bytes_2(&[4_095]), Ok(file));
+    assert_eq!(GameTables::new(0).bytes_2(&[]), Ok(vec![0x20, 0, 0, 0, 0]));
     let mut buffer = [0; 6];
     assert_eq!(write_plan(0, 0, &[4_095], &mut buffer), Ok(6));
     assert_eq!(buffer, [0x10, 0, 0, 0, 0xff, 0xf0]);
+}
+
+#[test]
+fn sequence_numbers_above_4095_or_too_many_or_few_get_17() {
+    let fields = study_game().fields;
+    let mut buffer = [UNTOUCHED; 99];
+    for sequences in [
+        &[4_096, 0, 1][..],
+        &[0, 4_097, 1],
+        &[0, 0, 1 | 1 << 32],
+        &[0, u64::MAX, 1],
+        &[],
+        &[0, 0],
+        &[0, 0, 1, 0],
+    ] {
+        let written = write_game_2(1, &fields, sequences, &mut buffer);
+        assert_eq!(written, Err(17), "{sequences:?}");
+        assert_eq!(buffer, [UNTOUCHED; 99]);
+    }
+    let written = write_game_2(1, &fields, &[4_095; 3], &mut buffer);
+    assert_eq!(written, Ok(89));
+    assert_eq!(buffer[89..], [UNTOUCHED; 10]);
+}
+
+/// What does not fit edition 1 does not fit edition 2.
+#[test]
+fn each_thing_that_does_not_fit_gets_17_in_edition_2() {
+    let mut rng = Rng::new(53);
+    for _ in 0..40 {
+        let (sets, nodes) = (rng.below(6), rng.below(9));
+        let tables = fitting_fields(&mut rng, sets, nodes);
+        assert!(tables.bytes_2(&vec![4_095; sets]).is_ok());
+        for refused in refused_fields(&mut rng, &tables) {
+            assert_eq!(refused.bytes(), Err(17));
+            assert_eq!(refused.bytes_2(&vec![0; sets]), Err(17));
+            let listed = vec![0; refused.fields.players.len()];
+            assert_eq!(refused.bytes_2(&listed), Err(17));
+        }
+    }
+}
+
+#[test]
+fn tables_of_4096_entries_get_17_in_edition_2() {
+    let length = |sets: usize, nodes: usize| {
+        let tables = fitting_fields(&mut Rng::new(54), sets, nodes);
+        tables.bytes_2(&vec![0; sets]).map(|file| file.len())
+    };
+    assert_eq!(length(4_095, 0), Ok(5 + 4 * 4_095));
+    assert_eq!(length(4_095, 4_095), Ok(49_145));
+    assert_eq!(length(4_096, 0), Err(17));
+    assert_eq!(length(0, 4_096), Err(17));
 }
 
 #[test]
@@ -184,6 +241,12 @@ fn short_buffers_get_18_and_keep_their_bytes() {
     for length in 0..80 {
         let mut buffer = vec![UNTOUCHED; length];
         assert_eq!(write_game(1, &fields, &mut buffer), Err(18));
+        assert!(buffer.iter().all(|&byte| byte == UNTOUCHED));
+    }
+    for length in 0..89 {
+        let mut buffer = vec![UNTOUCHED; length];
+        let written = write_game_2(1, &fields, &[0, 0, 1], &mut buffer);
+        assert_eq!(written, Err(18));
         assert!(buffer.iter().all(|&byte| byte == UNTOUCHED));
     }
     for length in 0..13 {
@@ -218,6 +281,8 @@ fn fields_come_back_as_they_were_given_and_so_do_bytes() {
         let length = write_game(game.root_weight(), &fields, &mut again);
         assert_eq!(length, Ok(file.len()));
         assert_eq!(again, file);
+        let wide = tables.bytes_2(&sequences_of(&game).unwrap()).unwrap();
+        assert_eq!(check_game(&wide), Ok(game));
     }
 }
 

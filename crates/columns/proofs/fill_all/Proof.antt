@@ -1,16 +1,17 @@
 -- Each call fills its own buffers and leaves the others.
+use Rattle.records.proofs.Headers.{header_edition, header_sets, header_framed}
 use Rattle.columns.proofs.fill_all.Statement.{statement}
 use Rattle.columns.proofs.fill_all.Tie as tie
 
 set_columns_requires : tie.Need-set-columns-requires
 set_columns_requires c κs =
     let q = c.before.before.before.before.before.before.before.before.before.before.before.requires in
-    (q.1, q.2.set_players, q.2.set_moves)
+    (header_edition _ _ q.0, header_sets _ _ q.0, q.1.set_players, q.1.set_moves)
 
 node_columns_requires : tie.Need-node-columns-requires
 node_columns_requires c κs =
     let q = c.before.before.before.before.before.before.before.before.before.before.before.before.before.before.before.before.before.before.before.before.before.before.before.before.requires in
-    (q.0, q.2.kinds, q.2.parents, q.2.moves, q.2.weights, q.2.node_sets, q.2.chance_moves, q.2.payoffs1, q.2.payoffs2)
+    (header_framed _ _ q.0, q.1.kinds, q.1.parents, q.1.moves, q.1.weights, q.1.node_sets, q.1.chance_moves, q.1.payoffs1, q.1.payoffs2)
 
 all_filled : tie.Need-returns
 all_filled c =
@@ -24,8 +25,8 @@ fill_all_spec =
     (tie.spec
     set_columns_requires
     node_columns_requires
-    (λ c. c.before.before.before.before.before.before.before.before.before.before.before.before.before.before.before.before.before.before.before.before.before.before.before.before.before.before.before.set-columns.auto.1.1.0)
     (λ c. c.before.before.before.before.before.before.before.before.before.before.before.before.before.before.before.before.before.before.before.before.before.before.before.before.before.before.before.set-columns.auto.1.1.1.0)
+    (λ c. c.before.before.before.before.before.before.before.before.before.before.before.before.before.before.before.before.before.before.before.before.before.before.before.before.before.before.before.set-columns.auto.1.1.1.1.0)
     (λ c. c.before.before.before.before.before.before.before.before.before.before.before.before.before.before.node-columns.auto.1.1.1.0)
     (λ c. c.before.before.before.before.before.before.before.before.before.before.before.before.before.before.node-columns.auto.1.1.1.1.0)
     (λ c. c.before.before.before.before.before.before.before.before.before.before.before.before.before.before.node-columns.auto.1.1.1.1.1.0)

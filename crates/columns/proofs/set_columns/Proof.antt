@@ -7,18 +7,17 @@ use lib.ListN.{length}
 use Rattle.algebra.proofs.Fillings.{Filling, filling_none, filling_more, filling_long, filling_all}
 use Rattle.model.specs.Game.{game_of}
 use Rattle.model.specs.Writing.{player_field}
-use Rattle.records.proofs.Widths.{few_sets}
 use Rattle.records.proofs.Records.{set_player_lem}
 use Rattle.columns.proofs.set_columns.Statement.{statement}
 use Rattle.columns.proofs.set_columns.Tie as tie
 
 abbrev invariant_loop : tie.invariant_loop
-invariant_loop bytes sets players₀ moves₀ h₀ players moves h =
+invariant_loop bytes edition sets players₀ moves₀ h₀ players moves h =
     Filling (player_field (game_of bytes)) (game_of bytes).sets players₀ h players
     × Filling (game_of bytes).set_moves (game_of bytes).sets moves₀ h moves
 
 abbrev decreases_loop : tie.decreases_loop
-decreases_loop bytes sets players₀ moves₀ h₀ players moves h = sets - h
+decreases_loop bytes edition sets players₀ moves₀ h₀ players moves h = sets - h
 
 players_long : (c : tie.At-loop invariant_loop decreases_loop) → length c.loop.players ≡ length c.before.before.before.before.args.players.now
 players_long c = filling_long 0 _ _ _ _ _ c.loop.invariant.0 (omega arith)
@@ -39,7 +38,7 @@ set_columns_spec =
     invariant_loop
     decreases_loop
     (λ c. (filling_none 0 _ _ _, filling_none 0 _ _ _))
-    (λ c κs. omega (arith, few_sets c.before.before.before.before.before.args.bytes.now))
+    (λ c κs. let s = c.before.before.before.before.before in (s.requires.0, omega (arith, s.requires.1)))
     (λ c. search rules)
     (λ c. omega (arith, players_long c.before.before))
     (λ c. search rules)

@@ -1,7 +1,6 @@
 -- The game's refusal comes first, then 18; with room for each field all buffers are filled.
 use borrow.Author.Rules.{rules}
 use Rattle.model.specs.Writing.{GameFields, field_lists}
-use Rattle.records.proofs.Headers.{header_framed, header_sets}
 use Rattle.game.proofs.Refusals.{Opened, opened, refused_with}
 use Rattle.fields.proofs.Buffers.{file_refused, no_room, has_room, all_given}
 use Rattle.fields.proofs.game_fields.Statement.{statement}
@@ -35,7 +34,7 @@ have_room c κs =
     let x = c.before.before.before.before.before.before.before.before.before.before.before.before.before.before in
     let h = x.checked.given.0.0 in
     let o = accepted x in
-    (header_framed h g o.header, header_sets h g o.header, has_room g (lent s) h.sets h.nodes c.before.before.before.before.before.before.before.before.before.before.before.before.has_room.ensures c.before.before.before.before.before.before.before.before.before.before.enum-told2.given.1)
+    (o.header, has_room g (lent s) h.sets h.nodes c.before.before.before.before.before.before.before.before.before.before.before.before.has_room.ensures c.before.before.before.before.before.before.before.before.before.before.enum-told2.given.1)
 
 given : tie.Need-returns-3
 given c =

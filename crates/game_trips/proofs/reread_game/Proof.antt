@@ -9,20 +9,20 @@ use Rattle.game_trips.proofs.reread_game.Statement.{statement}
 use Rattle.game_trips.proofs.reread_game.Tie as tie
 
 refused : tie.Need-returns
-refused c = reread_refused _ _ _ c.before.before.before.before.write.result c.before.before.before.before.write.ensures (le_refl 36860) c.before.enum_told.given.1 c.refusal.ensures _
+refused c = reread_refused _ _ _ c.before.before.before.before.write.result c.before.before.before.before.write.ensures (le_refl 49145) c.before.enum_told.given.1 c.refusal.ensures _
 
 -- what is written ends in the array
 ends : {size most room : ℕ} → size ≤ most → room ≡ most → size ≤ room
 ends b e = omega arith
 
 prefix : tie.Need-array-share-prefix-file
-prefix c = ends (reread_given _ _ _ c.before.before.before.before.write.result c.before.before.before.before.write.ensures (le_refl 36860) c.before.written.given.1).0 c.before.before.before.before.write.auto.1.1.1.1.1.1.1.1.1.1.1.0
+prefix c = ends (reread_given _ _ _ c.before.before.before.before.write.result c.before.before.before.before.write.ensures (le_refl 49145) c.before.written.given.1).0 c.before.before.before.before.write.auto.1.1.1.1.1.1.1.1.1.1.1.0
 
 part : tie.Need-slice-aggregate-game-fields
 part c = sym (length-take-le _ _ (prefix c.before))
 
 read : tie.Need-returns-2
-read c = c.before.before.before.before.before.before.before.before.before.before.before.before.before.before.before.before.before.before.game_fields.ensures ∙ (reread_given _ _ _ c.before.before.before.before.before.before.before.before.before.before.before.before.before.before.before.before.before.before.before.before.before.before.before.before.before.before.before.before.before.before.before.before.before.before.write.result c.before.before.before.before.before.before.before.before.before.before.before.before.before.before.before.before.before.before.before.before.before.before.before.before.before.before.before.before.before.before.before.before.before.before.write.ensures (le_refl 36860) c.before.before.before.before.before.before.before.before.before.before.before.before.before.before.before.before.before.before.before.before.before.before.before.before.before.before.before.before.before.before.before.written.given.1).1 _
+read c = c.before.before.before.before.before.before.before.before.before.before.before.before.before.before.before.before.before.before.game_fields.ensures ∙ (reread_given _ _ _ c.before.before.before.before.before.before.before.before.before.before.before.before.before.before.before.before.before.before.before.before.before.before.before.before.before.before.before.before.before.before.before.before.before.before.write.result c.before.before.before.before.before.before.before.before.before.before.before.before.before.before.before.before.before.before.before.before.before.before.before.before.before.before.before.before.before.before.before.before.before.before.write.ensures (le_refl 49145) c.before.before.before.before.before.before.before.before.before.before.before.before.before.before.before.before.before.before.before.before.before.before.before.before.before.before.before.before.before.before.before.written.given.1).1 _
 
 pub reread_game_spec : {M : Type 1} → statement M
 reread_game_spec =

@@ -4,8 +4,7 @@ use mathlib.Core.Path.{ap, ◌∙◌}
 use native.Mathlib.Omega.{arith}
 use Rattle.model.specs.Call.{given}
 use Rattle.model.specs.Calls.SetEntry.{call}
-use Rattle.records.proofs.Headers.{header_sets}
-use Rattle.records.proofs.Widths.{few_sets}
+use Rattle.records.proofs.Headers.{header_edition, header_sets}
 use Rattle.game.proofs.Refusals.{Opened, opened, refused_with}
 use Rattle.lookups.proofs.Asked.{in_game, game_refused, number_missing, number_found}
 use Rattle.lookups.proofs.Answers.{set_is_read}
@@ -31,7 +30,7 @@ in_entries c κs =
     let a = c.before.before.before.before.before.before.before.before.before.args in
     let k = c.before.before.before.before.before.checked.given.0.0.sets in
     let l = in_game a.number k c.before.before.before.in_game.ensures c.before.enum-told2.given.1 in
-    omega (arith, l, c.index.ensures, few_sets a.game.now, header_sets _ _ o.header)
+    (header_edition _ _ o.header, omega (arith, l, c.index.ensures, header_sets _ _ o.header))
 
 found : tie.Need-returns-3
 unfolding call

@@ -11,7 +11,7 @@ pub record Asked : Type 0 where
 abbrev pub asked : (game : List ℕ) → (number : ℕ) → Asked
 asked game number = record { game = game; number = number }
 
--- 1 to 13, then 17: "a set or node number asked for is not in the game", which has so many
+-- 1 to 13, 22, then 17: "a set or node number asked for is not in the game", which has so many
 unfoldable pub asked_rows : (count : Game → ℕ) → Rows Asked
 asked_rows count =
     of (λ a. a.game) game_rows

@@ -18,7 +18,7 @@ counts nodes sets root_weight = record { nodes = nodes; sets = sets; root_weight
 abbrev pub counts_of : (game : List ℕ) → Counts
 counts_of game = counts (game_of game).nodes (game_of game).sets (game_of game).root_weight
 
--- Of a game file: 1 to 13. No buffer is lent.
+-- Of a game file: 1 to 13, and 22. No buffer is lent.
 unfoldable pub call : Call (List ℕ) [] Counts
 call = record { rows = game_rows; result = counts_of; written = λ game. tt }
 

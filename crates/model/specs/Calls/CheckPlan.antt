@@ -18,7 +18,7 @@ denominators d1 d2 = record { d1 = d1; d2 = d2 }
 abbrev pub denominators_of : Files → Denominators
 denominators_of f = let q = plan_pair_of (game_of f.game) f.plan in denominators (q one).denominator (q two).denominator
 
--- Of a game file and a plan file: 1 to 16. No buffer is lent.
+-- Of a game file and a plan file: 1 to 16, and 22. No buffer is lent.
 unfoldable pub call : Call Files [] Denominators
 call = record { rows = pair_rows; result = denominators_of; written = λ f. tt }
 

@@ -14,7 +14,7 @@ shape = ℕ ∷ ℕ ∷ ℕ ∷ ℕ ∷ ℕ ∷ ℕ ∷ ℕ ∷ ℕ ∷ ℤ ∷ 
 abbrev pub lists : GameFields → Buffers shape
 lists t = (t.set_players, (t.set_moves, (t.kinds, (t.parents, (t.moves, (t.weights, (t.node_sets, (t.chance_moves, (t.payoffs1, (t.payoffs2, tt))))))))))
 
--- Of a game file: 1 to 13, and 18. It gives N, H and D0; each buffer takes its field, by set or by node.
+-- Of a game file: 1 to 13, 22, and 18. It gives N, H and D0; each buffer takes its field, by set or by node.
 unfoldable pub call : Call (List ℕ) shape Counts
 call = record { rows = game_rows; result = counts_of; written = λ game. lists (fields_of (game_of game)) }
 

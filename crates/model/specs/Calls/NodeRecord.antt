@@ -32,7 +32,7 @@ record_of g n =
     (decision (place_of g n) (g.node_set n))
     (chance (place_of g n) (g.chance_moves n))
 
--- Of a game file and the number of a node: 1 to 13, and 17. No buffer is lent.
+-- Of a game file and the number of a node: 1 to 13, 22, and 17. No buffer is lent.
 unfoldable pub call : Call Asked [] NodeRecord
 call = record { rows = asked_rows (λ g. g.nodes); result = λ a. record_of (game_of a.game) a.number; written = λ a. tt }
 

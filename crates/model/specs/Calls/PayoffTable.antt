@@ -5,7 +5,7 @@ use Rattle.model.specs.Table.{TableRow, payoff_table}
 use Rattle.model.specs.Checks.{game_rows}
 use Rattle.model.specs.Call.{Buffers, Call, Outcome, run}
 
--- Of a game file: 1 to 13, and 18 for the one buffer, which takes the rows. It gives how many there are.
+-- Of a game file: 1 to 13, 22, and 18 for the one buffer, which takes the rows. It gives how many there are.
 unfoldable pub rows_call : Call (List ℕ) (TableRow ∷ []) ℕ
 rows_call = record { rows = game_rows; result = λ game. length (payoff_table (game_of game)); written = λ game. (payoff_table (game_of game), tt) }
 
@@ -21,7 +21,7 @@ shape = ℕ ∷ ℕ ∷ ℤ ∷ ℤ ∷ []
 abbrev pub columns : List TableRow → Buffers shape
 columns t = (map (λ r. r.sequence1) t, (map (λ r. r.sequence2) t, (map (λ r. r.sum1) t, (map (λ r. r.sum2) t, tt))))
 
--- Of a game file: 1 to 13, and 18. Each buffer takes its column; it gives how many rows there are.
+-- Of a game file: 1 to 13, 22, and 18. Each buffer takes its column; it gives how many rows there are.
 unfoldable pub columns_call : Call (List ℕ) shape ℕ
 columns_call = record { rows = game_rows; result = λ game. length (payoff_table (game_of game)); written = λ game. columns (payoff_table (game_of game)) }
 

@@ -19,7 +19,7 @@ counts_of f =
     let q = plan_pair_of g f.plan in
     record { d1 = (q one).denominator; d2 = (q two).denominator; count = plan_moves g }
 
--- Of a game file and a plan file: 1 to 16, and 18 for the one buffer, which takes the weights in file order.
+-- Of a game file and a plan file: 1 to 16, 22, and 18 for the one buffer, which takes the weights in file order.
 unfoldable pub call : Call Files (ℕ ∷ []) PlanCounts
 call = record { rows = pair_rows; result = counts_of; written = λ f. (plan_weights (game_of f.game) f.plan, tt) }
 

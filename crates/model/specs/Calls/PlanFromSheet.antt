@@ -67,7 +67,7 @@ module _ (width limit : ℕ) where
       ∷ row 21 (λ f. smallest_in_limit (game_in f) (odds_in width f) limit) (λ f. (p : Player) × NoneServes (game_in f) (odds_in width f) limit p)
       ∷ []
 
-  -- Of a game file and a sheet: 1 to 13, 19 to 21, and 18 for the one buffer, which takes the plan file. It gives the file's length.
+  -- Of a game file and a sheet: 1 to 13, 22, 19 to 21, and 18 for the one buffer, which takes the plan file. It gives the file's length.
   unfoldable pub call : Call SheetFiles (ℕ ∷ []) ℕ
   call = record { rows = of (λ f. f.game) game_rows ++ sheet_rows; result = λ f. length (made_plan width f); written = λ f. (made_plan width f, tt) }
 

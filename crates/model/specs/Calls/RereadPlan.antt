@@ -17,7 +17,7 @@ pub record PlanOf : Type 0 where
 abbrev pub files_of : PlanOf → Files
 files_of t = files t.game (WritePlan.bytes_of t.fields)
 
--- the writer's 17, then 1 to 16 of the game and the plan file that it writes
+-- the writer's 17, then 1 to 16 and 22 of the game and the plan file that it writes
 unfoldable pub rows : Rows PlanOf
 rows = of (λ t. t.fields) WritePlan.rows ++ of files_of pair_rows
 

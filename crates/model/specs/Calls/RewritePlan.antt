@@ -4,7 +4,7 @@ use Rattle.model.specs.PlanChecks.{Files, files}
 use Rattle.model.specs.Checks.{pair_rows}
 use Rattle.model.specs.Call.{Call, Outcome, run}
 
--- "Writing the fields of an accepted file gives its bytes again": of a game file and a plan file, 1 to 16, and 18;
+-- "Writing the fields of an accepted file gives its bytes again": of a game file and a plan file, 1 to 16, 22, and 18;
 -- it gives the length of the plan file, and the one buffer takes the plan file's own bytes.
 unfoldable pub call : Call Files (ℕ ∷ []) ℕ
 call = record { rows = pair_rows; result = λ f. length f.plan; written = λ f. (f.plan, tt) }

@@ -12,7 +12,7 @@ pub record SetEntry : Type 0 where
 abbrev pub entry_of : Game → (set : ℕ) → SetEntry
 entry_of g set = record { player = player_bit (g.set_player set); moves = g.set_moves set }
 
--- Of a game file and the number of a set: 1 to 13, and 17. No buffer is lent.
+-- Of a game file and the number of a set: 1 to 13, 22, and 17. No buffer is lent.
 unfoldable pub call : Call Asked [] SetEntry
 call = record { rows = asked_rows (λ g. g.sets); result = λ a. entry_of (game_of a.game) a.number; written = λ a. tt }
 

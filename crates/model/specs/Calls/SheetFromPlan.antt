@@ -22,7 +22,7 @@ module _ (width : ℕ) where
   abbrev pub made_sheet : Files → List ℕ
   made_sheet f = sheet_bytes (game_of f.game) width (sheet_from (game_of f.game) (pair_in f))
 
-  -- Of a game file and a plan file: 1 to 16, and 18 for the one buffer, which takes the sheet. It gives the sheet's length.
+  -- Of a game file and a plan file: 1 to 16, 22, and 18 for the one buffer, which takes the sheet. It gives the sheet's length.
   unfoldable pub call : Call Files (ℕ ∷ []) ℕ
   call = record { rows = pair_rows; result = λ f. length (made_sheet f); written = λ f. (made_sheet f, tt) }
 

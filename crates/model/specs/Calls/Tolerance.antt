@@ -11,7 +11,7 @@ use Rattle.model.specs.Exported.{Exported}
 use Rattle.model.specs.Calls.Verdict.{Stated, accepted, deviates, verdict_call}
 use Rattle.model.specs.Demand3.{StrategiesExist}
 
--- Of a game file and a plan file, at t thousandths: 1 to 16. No buffer is lent. It gives whether the pair passes; true is yes.
+-- Of a game file and a plan file, at t thousandths: 1 to 16, and 22. No buffer is lent. It gives whether the pair passes; true is yes.
 unfoldable pub call : (t : ℕ) → Call Files [] Bool
 call t = record { rows = pair_rows; result = λ f. let g = game_of f.game in passes_at g (plan_pair_of g f.plan) t; written = λ f. tt }
 

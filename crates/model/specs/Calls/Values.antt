@@ -36,7 +36,7 @@ values_of f =
       d2 = (q two).denominator;
     }
 
--- Of a game file and a plan file: 1 to 16. No buffer is lent.
+-- Of a game file and a plan file: 1 to 16, and 22. No buffer is lent.
 unfoldable pub call : Call Files [] PairValues
 call = record { rows = pair_rows; result = values_of; written = λ f. tt }
 

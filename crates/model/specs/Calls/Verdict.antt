@@ -33,7 +33,7 @@ stated base (Pair.deviation p gain moves) = deviates (player_number p) gain base
 abbrev pub moves_of : Files → List ℕ
 moves_of f = map (λ (x : Move). x.1) (shown_moves (verdict_of f))
 
--- Of a game file and a plan file: 1 to 16, and 18 for the one buffer, which takes the moves of the strategy that is shown.
+-- Of a game file and a plan file: 1 to 16, 22, and 18 for the one buffer, which takes the moves of the strategy that is shown.
 unfoldable pub call : Call Files (ℕ ∷ []) Stated
 call = record { rows = pair_rows; result = λ f. stated (base_of f) (verdict_of f); written = λ f. (moves_of f, tt) }
 

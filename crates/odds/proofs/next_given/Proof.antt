@@ -22,12 +22,12 @@ mine c =
     next_his s.requires.loaded s.requires.inside c.before.before.number.ensures.0 s.args.player s.requires.known c.before.number2.ensures.0 c.if1.true
 
 -- so its sequences stand among his
-stands : (c : tie.After-set-sequences) → let a = c.before.before.before.before.before.before.before.args in SetStands c.set-sequences.result a.x.now a.marks.now
+stands : (c : tie.After-set-sequences) → let a = c.before.before.before.before.before.before.before.args in SetStands c.set_sequences.result a.x.now a.marks.now
 stands c =
     let s = c.before.before.before.before.before.before.before in
     let asked = s.requires in
     let l = inside c.before.before.before in
-    let at = set_stands asked.loaded.rules (player_of s.args.player) l (mine c.before) (sequences_read asked.loaded l c.set-sequences.ensures) in
+    let at = set_stands asked.loaded.rules (player_of s.args.player) l (mine c.before) (sequences_read asked.loaded l c.set_sequences.ensures) in
     let few = room asked.loaded.rules asked.loaded.limits (player_of s.args.player) in
     let odds = few s.args.x.now asked.in_odds in
     let marks = few s.args.marks.now asked.in_marks in
@@ -39,7 +39,7 @@ returns c g counts odds L l X K =
     let read = c.before.before.before.before.before.before.before.number.ensures.0 in
     next_own L.rules (player_of a.args.player) odds X l K (next_read L l read)
     (next_his L l read a.args.player a.requires.known c.before.before.before.before.before.before.number2.ensures.0 c.before.before.before.before.before.if1.true)
-    (sequences_read L (next_inside L l read) c.before.before.before.before.set-sequences.ensures)
+    (sequences_read L (next_inside L l read) c.before.before.before.before.set_sequences.ensures)
     c.before.before.set_given.ensures
 
 returns_2 : tie.Need-returns-2

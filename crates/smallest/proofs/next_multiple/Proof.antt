@@ -22,11 +22,11 @@ mine c =
     next_his s.requires.loaded s.requires.inside c.before.before.number.ensures.0 s.args.player s.requires.known c.before.number2.ensures.0 c.if1.true
 
 -- so its sequences stand among his
-stands : (c : tie.After-set-sequences) → Stand (sequence_count c.before.before.before.before.before.before.before.before.requires.game (player_of c.before.before.before.before.before.before.before.before.args.player)) c.set-sequences.result
+stands : (c : tie.After-set-sequences) → Stand (sequence_count c.before.before.before.before.before.before.before.before.requires.game (player_of c.before.before.before.before.before.before.before.before.args.player)) c.set_sequences.result
 stands c =
     let s = c.before.before.before.before.before.before.before.before in
     let l = inside c.before.before.before in
-    set_stands s.requires.loaded.rules (player_of s.args.player) l (mine c.before) (sequences_read s.requires.loaded l c.set-sequences.ensures)
+    set_stands s.requires.loaded.rules (player_of s.args.player) l (mine c.before) (sequences_read s.requires.loaded l c.set_sequences.ensures)
 
 -- what is asked at the set
 asked : tie.Need-fill-set-requires
@@ -39,9 +39,9 @@ asked c κs =
       in_odds = omega (arith, at.block, s.requires.odds_are.long);
       in_numerators = omega (arith, at.block, K.numerators_are.long);
       in_denominators = omega (arith, at.block, K.denominators_are.long);
-      proper = lead_proper s.requires.loaded.rules s.requires.odds (player_of s.args.player) s.requires.inside K (next_read s.requires.loaded s.requires.inside c.before.before.before.before.before.before.before.before.before.before.number.ensures.0) (mine c.before.before.before.before.before.before.before.before) (sequences_read s.requires.loaded (inside c.before.before.before.before.before.before.before.before.before.before) c.before.before.before.before.before.before.before.set-sequences.ensures) c.before.before.before.before.item.ensures.0 c.before.before.item2.ensures.0 c.before.before.item2.ensures.1;
+      proper = lead_proper s.requires.loaded.rules s.requires.odds (player_of s.args.player) s.requires.inside K (next_read s.requires.loaded s.requires.inside c.before.before.before.before.before.before.before.before.before.before.number.ensures.0) (mine c.before.before.before.before.before.before.before.before) (sequences_read s.requires.loaded (inside c.before.before.before.before.before.before.before.before.before.before) c.before.before.before.before.before.before.before.set_sequences.ensures) c.before.before.before.before.item.ensures.0 c.before.before.item2.ensures.0 c.before.before.item2.ensures.1;
       total_is = few;
-      total_small = total_small s.args.x.now c.before.before.before.before.before.before.before.set-sequences.result.start c.before.before.before.before.before.before.before.set-sequences.result.moves at.few (λ k. omega (arith, c.before.before.before.before.before.before.before.before.before.before.before.before.before.shared-slice-known2.given k)) few;
+      total_small = total_small s.args.x.now c.before.before.before.before.before.before.before.set_sequences.result.start c.before.before.before.before.before.before.before.set_sequences.result.moves at.few (λ k. omega (arith, c.before.before.before.before.before.before.before.before.before.before.before.before.before.shared-slice-known2.given k)) few;
       within = s.requires.within;
     }
 
@@ -51,7 +51,7 @@ returns c g n given L l X K =
     let read = c.before.before.before.before.before.before.before.before.before.before.before.before.before.before.before.number.ensures.0 in
     next_own L.rules given (player_of s.args.player) l K X s.requires.within (next_read L l read)
     (next_his L l read s.args.player s.requires.known c.before.before.before.before.before.before.before.before.before.before.before.before.before.before.number2.ensures.0 c.before.before.before.before.before.before.before.before.before.before.before.before.before.if1.true)
-    (sequences_read L (next_inside L l read) c.before.before.before.before.before.before.before.before.before.before.before.before.set-sequences.ensures)
+    (sequences_read L (next_inside L l read) c.before.before.before.before.before.before.before.before.before.before.before.before.set_sequences.ensures)
     (rw (c.before.before.before.before.before.before.before.before.before.item.ensures.0, c.before.before.before.before.before.before.before.item2.ensures.0)) c.before.before.before.before.before.before.before.before.before.before.before.moves-total.ensures c.before.before.before.before.fill-set.ensures
 
 returns_2 : tie.Need-returns-2

@@ -44,7 +44,8 @@ fn read(case: &Case, room: usize) -> (Result<[u64; 3], Refusal>, Vec<u64>) {
     (answer, buffer)
 }
 
-/// D1, D2 and the number of weights, with the weights in the buffer: 1 to 16, then 18.
+/// D1, D2 and the number of weights, with the weights in the buffer: 1 to 13, 22, 14 to 16, then
+/// 18.
 fn plan_fields(case: &Case, buffer: &mut [u64]) -> Result<[u64; 3], Refusal> {
     let game = check_game(&case.game)?;
     let plan = check_plan(&game, &case.plan)?;

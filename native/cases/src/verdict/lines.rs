@@ -57,7 +57,7 @@ pub fn room_lines(case: &Case) -> String {
     lines
 }
 
-/// The verdict, with the shown strategy in the buffer: 1 to 16, then 18.
+/// The verdict, with the shown strategy in the buffer: 1 to 13, 22, 14 to 16, then 18.
 fn judge(case: &Case, buffer: &mut [u64]) -> Result<Answer, Refusal> {
     let game = check_game(&case.game)?;
     let plan = check_plan(&game, &case.plan)?;

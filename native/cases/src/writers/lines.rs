@@ -9,7 +9,7 @@ use reference::Refusal;
 /// What each byte of a buffer is before the call.
 const HELD: u8 = 0xa5;
 
-/// The buffer of the long tables: one more than the bytes of the longest legal file.
+/// The buffer of the long tables: one more than the bytes of the longest file of edition 1.
 const LONG_ROOM: usize = 36_861;
 
 /// How many of its bytes are shown.
@@ -53,7 +53,8 @@ pub fn long_lines() -> String {
     lines.concat()
 }
 
-fn long_game(sets: usize, nodes: usize) -> String {
+/// A game with D0 = 1, of so many sets and nodes, all their fields 0.
+pub fn long_tables(sets: usize, nodes: usize) -> GameTables {
     let mut tables = GameTables::new(1);
     let fields = &mut tables.fields;
     for list in [&mut fields.players, &mut fields.set_moves] {
@@ -73,7 +74,11 @@ fn long_game(sets: usize, nodes: usize) -> String {
     for list in &mut fields.payoffs {
         list.resize(nodes, 0);
     }
-    let (answer, buffer) = written(&Input::Game(tables), LONG_ROOM);
+    tables
+}
+
+fn long_game(sets: usize, nodes: usize) -> String {
+    let (answer, buffer) = written(&Input::Game(long_tables(sets, nodes)), LONG_ROOM);
     let name = format!("{sets} sets and {nodes} nodes");
     line(&name, answer, &buffer[..SHOWN])
 }

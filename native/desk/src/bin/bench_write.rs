@@ -10,7 +10,7 @@ use generator::shape::Shape;
 use generator::tables::GameTables;
 use std::hint::black_box;
 
-/// As long as any game file.
+/// As long as any game file of edition 1.
 const ROOM: usize = 36_860;
 const MOST_MOVES: usize = 4_094;
 

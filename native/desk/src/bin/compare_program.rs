@@ -1,9 +1,11 @@
-//! Runs the built desk program on any number of drawn pairs and compares what it prints with the
-//! independent implementation: `compare_program COUNT [SEED]`. The first pair on which they
-//! differ stays in the working folder, as `game.bin` and `plan.bin`.
+//! Runs the built desk program on any number of drawn pairs, in both editions where the game is
+//! accepted, and compares what it prints with the independent implementation:
+//! `compare_program COUNT [SEED]`. The first pair on which they differ stays in the working folder,
+//! as `game.bin` and `plan.bin`.
 
 use desk::drawn::{draw, Met};
 use desk::program::Folder;
+use desk::samples::Pair;
 use generator::rng::Rng;
 use reference::report::report;
 use std::error::Error;
@@ -22,7 +24,9 @@ fn main() -> Result<(), Box<dyn Error>> {
     let folder = Folder::new()?;
     let mut met = Met::default();
     while met.pairs < count {
-        for pair in draw(&mut rng).map_err(|refusal| format!("a draw gives {refusal}"))? {
+        let drawn = draw(&mut rng).map_err(|refusal| format!("a draw gives {refusal}"))?;
+        let both = |pair: Pair| [pair.turned().ok(), Some(pair)];
+        for pair in drawn.into_iter().flat_map(both).flatten() {
             folder.put(&pair.game, &pair.plan)?;
             let text = folder.printed()?;
             if text != report(&pair.game, &pair.plan) {

@@ -49,7 +49,7 @@ impl Scratch {
         })
     }
 
-    /// Checks 1 to 13 alone, or nothing where one fails.
+    /// Checks 1 to 13 and 22 alone, or nothing where one fails.
     fn check<'a>(&mut self, game: &'a [u8]) -> Option<Frame<'a>> {
         let frame = Frame::of(game)?;
         self.tree.read_sets(&frame)?;
@@ -57,7 +57,7 @@ impl Scratch {
         Some(frame)
     }
 
-    /// Checks 1 to 13 and the leaves, or nothing where a check fails.
+    /// Checks 1 to 13 and 22 with the leaves, or nothing where a check fails.
     fn gather(&mut self, game: &[u8]) -> Option<()> {
         let frame = Frame::of(game)?;
         self.tree.read_sets(&frame)?;
@@ -65,14 +65,14 @@ impl Scratch {
         self.tree.read_nodes(&frame, |leaf| self.leaves.take(&leaf))
     }
 
-    /// Checks 1 to 16 with the weights, or nothing where a check fails.
+    /// Checks 1 to 16 and 22 with the weights, or nothing where a check fails.
     fn read(&mut self, game: &[u8], plan: &[u8]) -> Option<()> {
         self.check(game)?;
         self.weights.read(plan, self.tree.sequences)?;
         self.tree.fits(&self.weights)
     }
 
-    /// Checks 1 to 16 with values and worths: D0, or nothing where a check fails.
+    /// Checks 1 to 16 and 22 with values and worths: D0, or nothing where a check fails.
     fn evaluate(&mut self, game: &[u8], plan: &[u8]) -> Option<u64> {
         let frame = Frame::of(game)?;
         self.tree.read_sets(&frame)?;
@@ -86,27 +86,27 @@ impl Scratch {
     }
 }
 
-/// The first refusal of 1 to 13; there must be one.
+/// The first refusal of 1 to 13 and 22; there must be one.
 fn refusal_of_game(game: &[u8]) -> Refusal {
     let answer = super::check_game::<Word>(game);
     answer.expect_err("a check that fails in one way fails in the other")
 }
 
-/// The first refusal of 1 to 16; there must be one.
+/// The first refusal of 1 to 16 and 22; there must be one.
 fn refusal_of_pair(game: &[u8], plan: &[u8]) -> Refusal {
     let mut buffers = PlanBuffers::with_room(ROOM);
     let answer = plan::plan_fields::<Word>(game, plan, &mut buffers);
     answer.expect_err("a check that fails in one way fails in the other")
 }
 
-/// The first refusal of 1 to 13 and 19 to 21; there must be one.
+/// The first refusal of 1 to 13, 22 and 19 to 21; there must be one.
 fn refusal_of_sheet(game: &[u8], given: &[u8]) -> Refusal {
     let mut out = Output::with_room(2 * ROOM);
     let answer = sheet::plan_from_sheet::<Word>(game, given, &mut out);
     answer.expect_err("a check that fails in one way fails in the other")
 }
 
-/// Checks 1 to 13.
+/// Checks 1 to 13 and 22.
 pub fn check_game(game: &[u8], scratch: &mut Scratch) -> Result<Counts, Refusal> {
     let frame = scratch.check(game).ok_or_else(|| refusal_of_game(game))?;
     Ok(Counts {
@@ -116,7 +116,7 @@ pub fn check_game(game: &[u8], scratch: &mut Scratch) -> Result<Counts, Refusal>
     })
 }
 
-/// D1, D2 and all weights in file order: 1 to 16, then 18.
+/// D1, D2 and all weights in file order: 1 to 13, 22, 14 to 16, then 18.
 pub fn plan_fields(
     game: &[u8],
     plan: &[u8],
@@ -134,7 +134,7 @@ pub fn plan_fields(
     Ok(())
 }
 
-/// Values and best values: 1 to 16.
+/// Values and best values: 1 to 13, 22, 14 to 16.
 pub fn values(
     game: &[u8],
     plan: &[u8],
@@ -150,7 +150,7 @@ pub fn values(
     Ok(())
 }
 
-/// Accepted, or the deviation of the first player who can gain: 1 to 16, then 18.
+/// Accepted, or the deviation of the first player who can gain: 1 to 13, 22, 14 to 16, then 18.
 pub fn verdict(
     game: &[u8],
     plan: &[u8],
@@ -174,8 +174,8 @@ pub fn verdict(
     Ok(())
 }
 
-/// 1 where no strategy gains more than so many thousandths of a payoff point, else 0: 1 to 16.
-/// Weights of 12 bits leave room for 1,000 × gain in 63.
+/// 1 where no strategy gains more than so many thousandths of a payoff point, else 0: 1 to 13, 22,
+/// 14 to 16. Weights of 12 bits leave room for 1,000 × gain in 63.
 pub fn tolerates(
     game: &[u8],
     plan: &[u8],
@@ -192,7 +192,7 @@ pub fn tolerates(
     Ok(())
 }
 
-/// The payoff table: 1 to 13, then 18.
+/// The payoff table: 1 to 13, 22, then 18.
 pub fn payoff_table(
     game: &[u8],
     scratch: &mut Scratch,
@@ -203,7 +203,7 @@ pub fn payoff_table(
     scratch.leaves.give_rows(scratch.tree.sequences, buffers)
 }
 
-/// A plan from a sheet: 1 to 13, 19 to 21, then 18.
+/// A plan from a sheet: 1 to 13, 22, 19 to 21, then 18.
 pub fn plan_from_sheet(
     game: &[u8],
     given: &[u8],
@@ -218,7 +218,7 @@ pub fn plan_from_sheet(
     Ok(())
 }
 
-/// A sheet from a plan: 1 to 16, then 18.
+/// A sheet from a plan: 1 to 13, 22, 14 to 16, then 18.
 pub fn sheet_from_plan(
     game: &[u8],
     plan: &[u8],

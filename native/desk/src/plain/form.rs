@@ -41,7 +41,7 @@ impl Evaluated {
     }
 }
 
-/// Values and best values: 1 to 16.
+/// Values and best values: 1 to 13, 22, 14 to 16.
 pub fn values<R: Reader>(game: &[u8], plan: &[u8], out: &mut Values) -> Result<(), Refusal> {
     let mut loaded = Loaded::new();
     let mut pair = Pair::new();

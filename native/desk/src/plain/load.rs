@@ -2,6 +2,7 @@
 
 use super::Reader;
 use crate::Refusal;
+use reference::edition::Edition;
 
 /// The places of a column: one for each number of 12 bits.
 pub const ROOM: usize = 4_096;
@@ -15,12 +16,15 @@ pub const CHANCE: u16 = 2;
 
 /// Pairs of columns are player 1's and player 2's.
 pub struct Loaded {
+    pub edition: Edition,
     pub nodes: usize,
     pub sets: usize,
     pub leaves: usize,
     /// How many sequences each player has.
     pub sequences: [usize; 2],
     pub root_weight: u64,
+    /// The byte at which the node records begin.
+    pub records: usize,
     /// By set: its player, 0 or 1, and its move count.
     pub players: Column,
     pub moves: Column,
@@ -52,11 +56,13 @@ pub struct Loaded {
 impl Loaded {
     pub fn new() -> Loaded {
         Loaded {
+            edition: Edition::One,
             nodes: 0,
             sets: 0,
             leaves: 0,
             sequences: [0; 2],
             root_weight: 0,
+            records: 0,
             players: [0; ROOM],
             moves: [0; ROOM],
             kinds: [0; ROOM],
@@ -77,14 +83,15 @@ impl Loaded {
         }
     }
 
-    /// Checks 1 to 13.
+    /// Checks 1 to 13 and 22.
     pub fn check<R: Reader>(&mut self, game: &[u8]) -> Result<(), Refusal> {
         self.decode::<R>(game)?;
         self.check_tree()?;
-        self.check_sequences()
+        self.check_sequences()?;
+        self.check_written::<R>(game)
     }
 
-    /// Checks 1 to 13, with every column filled.
+    /// Checks 1 to 13 and 22, with every column filled.
     pub fn load<R: Reader>(&mut self, game: &[u8]) -> Result<(), Refusal> {
         self.check::<R>(game)?;
         self.lead_on();

@@ -53,7 +53,7 @@ impl Loaded {
     }
 
     /// The own sequence to a set's first node.
-    fn lead(&self, h: usize) -> u16 {
+    pub fn lead(&self, h: usize) -> u16 {
         self.own[self.player(h)][usize::from(self.first_nodes[h])]
     }
 

@@ -93,7 +93,7 @@ fn read_run<R: Reader>(plan: &[u8], from: usize, out: &mut [u16]) {
     }
 }
 
-/// D1, D2 and all weights in file order: 1 to 16, then 18.
+/// D1, D2 and all weights in file order: 1 to 13, 22, 14 to 16, then 18.
 pub fn plan_fields<R: Reader>(
     game: &[u8],
     plan: &[u8],

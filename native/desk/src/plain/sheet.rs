@@ -139,7 +139,7 @@ impl Fractions {
     }
 }
 
-/// A plan from a sheet: 1 to 13, 19 to 21, then 18.
+/// A plan from a sheet: 1 to 13, 22, 19 to 21, then 18.
 pub fn plan_from_sheet<R: Reader>(
     game: &[u8],
     sheet: &[u8],
@@ -175,7 +175,7 @@ fn put_lowest(weights: &[u16], odds: &mut [u64]) {
     }
 }
 
-/// A sheet from a plan: 1 to 16, then 18.
+/// A sheet from a plan: 1 to 13, 22, 14 to 16, then 18.
 pub fn sheet_from_plan<R: Reader>(
     game: &[u8],
     plan: &[u8],

@@ -6,7 +6,8 @@ use super::plan::Pair;
 use super::Reader;
 use crate::Refusal;
 
-/// 1 where no strategy gains more than so many thousandths of a payoff point, else 0: 1 to 16.
+/// 1 where no strategy gains more than so many thousandths of a payoff point, else 0: 1 to 13, 22,
+/// 14 to 16.
 pub fn tolerates<R: Reader>(
     game: &[u8],
     plan: &[u8],

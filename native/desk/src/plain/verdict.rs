@@ -7,7 +7,7 @@ use super::{require, Reader};
 use crate::verdict::VerdictBuffers;
 use crate::Refusal;
 
-/// Accepted, or the deviation of the first player who can gain: 1 to 16, then 18.
+/// Accepted, or the deviation of the first player who can gain: 1 to 13, 22, 14 to 16, then 18.
 pub fn verdict<R: Reader>(
     game: &[u8],
     plan: &[u8],

@@ -2,7 +2,7 @@
 
 use crate::rng::Rng;
 use crate::tables::{GameTables, Place};
-use reference::game::{Game, Kind};
+use reference::game::{Game, Kind, Player};
 use reference::limits::{LONGEST_PATH, MOST_ENTRIES};
 use reference::writer::Fields;
 
@@ -46,19 +46,13 @@ fn turn_into_chance(fields: &mut Fields, leaf: usize) -> [i64; 2] {
 
 /// 12: puts a set without nodes in among the others.
 pub fn add_unmet_set(rng: &mut Rng, game: &Game) -> Option<Vec<u8>> {
-    let mut tables = GameTables::of(game);
-    let fields = &mut tables.fields;
-    if fields.players.len() == MOST_ENTRIES {
+    if game.sets().len() == MOST_ENTRIES {
         return None;
     }
-    let added = rng.below(fields.players.len() + 1);
-    fields.players.insert(added, rng.between(0, 1));
-    fields.set_moves.insert(added, rng.between(1, 64));
-    for (set, &kind) in fields.sets.iter_mut().zip(&fields.kinds) {
-        if kind == 1 && *set >= added as u64 {
-            *set += 1;
-        }
-    }
+    let mut tables = GameTables::of(game);
+    let place = rng.below(game.sets().len() + 1);
+    let player = Player::BOTH[rng.below(2)];
+    tables.insert_set(place, player, rng.between(1, 64));
     tables.bytes().ok()
 }
 

@@ -1,14 +1,21 @@
-//! Checks 7 to 13, each over the whole game, in document 01's order.
+//! Checks 7 to 13 and 22, each over the whole game, in the documents' order.
 
-use super::decode::decode;
+use super::decode::{decode, Parts};
 use super::{Game, Kind, Move};
+use crate::edition::sequences_of;
 use crate::limits::{LONGEST_PATH, MOST_MOVES};
 use crate::{require, Refusal};
 
-/// Reads a game file, or gives the first of refusals 1 to 13 that applies.
+/// Reads a game file of either edition, or gives the first of refusals 1 to 13 and 22 that
+/// applies.
 pub fn check_game(file: &[u8]) -> Result<Game, Refusal> {
-    let parts = decode(file)?;
-    let game = Game::new(parts.root_weight, parts.sets, parts.nodes);
+    let Parts {
+        root_weight,
+        sets,
+        written,
+        nodes,
+    } = decode(file)?;
+    let game = Game::new(root_weight, sets, nodes);
     require(numbers_hold(&game), 7)?;
     require(parents_hold(&game), 8)?;
     require(children_hold(&game), 9)?;
@@ -16,6 +23,7 @@ pub fn check_game(file: &[u8]) -> Result<Game, Refusal> {
     require(longest_path(&game) <= LONGEST_PATH, 11)?;
     require(sets_are_met(&game), 12)?;
     require(has_perfect_recall(&game), 13)?;
+    require(sequences_hold(&game, written), 22)?;
     Ok(game.with_leaves())
 }
 
@@ -104,4 +112,9 @@ fn has_perfect_recall(game: &Game) -> bool {
         let own = game.walk(game.sets[set].player, number);
         *leading[set].get_or_insert_with(|| own.clone()) == own
     })
+}
+
+/// The written own sequence numbers, if there are any, are those that the tree gives.
+fn sequences_hold(game: &Game, written: Option<Vec<u64>>) -> bool {
+    written.is_none_or(|written| sequences_of(game) == Ok(written))
 }

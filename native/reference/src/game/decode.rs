@@ -2,17 +2,16 @@
 
 use super::{InfoSet, Kind, Node, Player};
 use crate::bits::{from_twos_complement, BitReader};
+use crate::edition::Edition;
 use crate::limits::MOST_MOVES;
 use crate::{require, Refusal};
-
-const EDITION: u64 = 1;
-const HEADER_BYTES: usize = 5;
-const NODE_BYTES: usize = 8;
 
 /// The parts of a file that passes checks 1 to 6.
 pub(super) struct Parts {
     pub root_weight: u64,
     pub sets: Vec<InfoSet>,
+    /// By set the own sequence number that the file writes, if its edition does.
+    pub written: Option<Vec<u64>>,
     pub nodes: Vec<Node>,
 }
 
@@ -21,6 +20,20 @@ struct Header {
     nodes: usize,
     sets: usize,
     root_weight: u64,
+}
+
+/// A set entry. Edition 1 has neither a sequence nor zero bits.
+struct Entry {
+    set: InfoSet,
+    sequence: Option<u64>,
+    zeros: u64,
+}
+
+impl Entry {
+    /// Check 5 of one entry.
+    fn holds(&self) -> bool {
+        (1..=MOST_MOVES).contains(&self.set.moves) && self.zeros == 0
+    }
 }
 
 /// A node record with its kind and payload still raw.
@@ -35,18 +48,19 @@ struct Record {
 pub(super) fn decode(file: &[u8]) -> Result<Parts, Refusal> {
     let mut reader = BitReader::new(file);
     let header = read_header(&mut reader).ok_or(1)?;
-    require(header.edition == EDITION, 2)?;
+    let edition = Edition::numbered(header.edition).ok_or(2)?;
     require(header.nodes > 0 && header.root_weight > 0, 3)?;
-    let length = HEADER_BYTES + header.sets + NODE_BYTES * header.nodes;
+    let length = edition.file_length(header.sets, header.nodes);
     require(file.len() == length, 4)?;
-    let sets = read_all(&mut reader, header.sets, read_set).ok_or(4)?;
+    let read_entry = |reader: &mut BitReader| read_entry(reader, edition);
+    let entries = read_all(&mut reader, header.sets, read_entry).ok_or(4)?;
     let records = read_all(&mut reader, header.nodes, read_record).ok_or(4)?;
-    let sound_set = |set: &InfoSet| (1..=MOST_MOVES).contains(&set.moves);
-    require(sets.iter().all(sound_set), 5)?;
+    require(entries.iter().all(Entry::holds), 5)?;
     let nodes: Option<Vec<Node>> = records.iter().map(node_of).collect();
     Ok(Parts {
         root_weight: header.root_weight,
-        sets,
+        sets: entries.iter().map(|entry| entry.set).collect(),
+        written: entries.iter().map(|entry| entry.sequence).collect(),
         nodes: nodes.ok_or(6)?,
     })
 }
@@ -64,18 +78,26 @@ fn read_header(reader: &mut BitReader) -> Option<Header> {
 fn read_all<T>(
     reader: &mut BitReader,
     count: usize,
-    read_one: fn(&mut BitReader) -> Option<T>,
+    read_one: impl Fn(&mut BitReader) -> Option<T>,
 ) -> Option<Vec<T>> {
     (0..count).map(|_| read_one(reader)).collect()
 }
 
-fn read_set(reader: &mut BitReader) -> Option<InfoSet> {
+fn read_entry(reader: &mut BitReader, edition: Edition) -> Option<Entry> {
     let player = match reader.read(1)? {
         0 => Player::One,
         _ => Player::Two,
     };
     let moves = reader.read(7)? as usize;
-    Some(InfoSet { player, moves })
+    let (sequence, zeros) = match edition {
+        Edition::One => (None, 0),
+        Edition::Two => (Some(reader.read(12)?), reader.read(12)?),
+    };
+    Some(Entry {
+        set: InfoSet { player, moves },
+        sequence,
+        zeros,
+    })
 }
 
 fn read_record(reader: &mut BitReader) -> Option<Record> {

@@ -1,6 +1,5 @@
 -- Check 5 is broken, or check 6 gives the answer.
 use borrow.Author.Rules.{rules}
-use Rattle.records.proofs.Headers.{header_sets}
 use Rattle.game.proofs.RecordStage.{sets_broken, nodes_after}
 use Rattle.game.proofs.stages.load_records.Statement.{statement}
 use Rattle.game.proofs.stages.load_records.Tie as tie
@@ -15,7 +14,7 @@ pub load_records_spec : {M : Type 1} → statement M
 load_records_spec =
     tie.close
     (tie.spec
-    (λ c κs. (header_sets _ _ c.before.before.before.requires.0, c.before.before.before.requires.1))
+    (λ c κs. (c.before.before.before.requires.0, c.before.before.before.requires.1))
     (λ c. search rules)
     (λ c. search rules)
     (λ c κs. search rules)

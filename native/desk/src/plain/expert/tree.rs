@@ -1,7 +1,9 @@
-//! Checks 1 to 13 in one pass over the sets and one over the records.
+//! Checks 1 to 13 in one pass over the sets and one over the records, and 22 in one more over the
+//! sets of edition 2.
 
 use super::weights::Weights;
 use super::{sequence, Sequences, ROOM};
+use reference::edition::Edition;
 use reference::limits::{LONGEST_PATH, MOST_MOVES};
 
 /// Stands for the leading sequence of a set that no node was met of.
@@ -12,6 +14,7 @@ pub struct Frame<'a> {
     pub nodes: usize,
     pub sets: usize,
     pub root_weight: u16,
+    edition: Edition,
     entries: &'a [u8],
     records: &'a [u8],
 }
@@ -23,18 +26,26 @@ impl Frame<'_> {
         let nodes = usize::from(high_and_low(edition_nodes, nodes));
         let sets = usize::from(sets) << 4 | usize::from(sets_root >> 4);
         let root_weight = high_and_low(sets_root, root);
-        let holds = edition_nodes >> 4 == 1 && nodes > 0 && root_weight > 0;
-        if !holds || rest.len() != sets + 8 * nodes {
+        let edition = Edition::numbered(u64::from(edition_nodes >> 4))?;
+        let entry_bytes = edition.entry_bytes() * sets;
+        if nodes == 0 || root_weight == 0 || rest.len() != entry_bytes + 8 * nodes {
             return None;
         }
-        let (entries, records) = rest.split_at(sets);
+        let (entries, records) = rest.split_at(entry_bytes);
         Some(Frame {
             nodes,
             sets,
             root_weight,
+            edition,
             entries,
             records,
         })
+    }
+
+    /// The entries of edition 2.
+    fn wide_entries(&self) -> &[[u8; 4]] {
+        let (entries, _) = self.entries.as_chunks();
+        entries
     }
 }
 
@@ -150,11 +161,30 @@ impl Tree {
         }
     }
 
-    /// Check 5, and the numbers of the sets' first sequences. In a legal game both players
-    /// together have fewer moves than there are nodes.
+    /// Check 5, and the numbers of the sets' first sequences.
     pub fn read_sets(&mut self, frame: &Frame) -> Option<()> {
+        match frame.edition {
+            Edition::One => self.take_sets(frame, frame.entries.iter().copied().map(Some)),
+            Edition::Two => {
+                let unpadded = |&[first, _, third, last]: &[u8; 4]| {
+                    (third & 15 == 0 && last == 0).then_some(first)
+                };
+                self.take_sets(frame, frame.wide_entries().iter().map(unpadded))
+            }
+        }
+    }
+
+    /// Takes the sets in by what both editions have, none where the padding is not zero. In a
+    /// legal game both players together have fewer moves than there are nodes.
+    #[inline(always)]
+    fn take_sets(
+        &mut self,
+        frame: &Frame,
+        entries: impl Iterator<Item = Option<u8>>,
+    ) -> Option<()> {
         let mut next = [1usize; 2];
-        for (set, &entry) in self.sets.iter_mut().zip(frame.entries) {
+        for (set, entry) in self.sets.iter_mut().zip(entries) {
+            let entry = entry?;
             let player = entry >> 7;
             let next = &mut next[usize::from(player)];
             *set = Set {
@@ -172,7 +202,7 @@ impl Tree {
         (next[0] + next[1] - 2 < frame.nodes).then_some(())
     }
 
-    /// Checks 6 to 13, with each leaf given on.
+    /// Checks 6 to 13 and 22, with each leaf given on.
     pub fn read_nodes(&mut self, frame: &Frame, mut give: impl FnMut(Leaf)) -> Option<()> {
         (self.met, self.moves, self.chance) = (0, 0, 0);
         let (records, _) = frame.records.as_chunks();
@@ -191,7 +221,19 @@ impl Tree {
             self.take(frame, n, record, place, &mut give)?;
         }
         let complete = self.moves + 1 == frame.nodes && self.chance == 0;
-        (complete && self.met == frame.sets).then_some(())
+        (complete && self.met == frame.sets && self.leads_hold(frame)).then_some(())
+    }
+
+    /// Check 22.
+    fn leads_hold(&self, frame: &Frame) -> bool {
+        if frame.edition == Edition::One {
+            return true;
+        }
+        let mut entries = frame.wide_entries().iter().zip(&self.sets);
+        entries.all(|(&entry, set)| {
+            let written = u32::from_be_bytes(entry) >> 12 & 4_095;
+            written == set.lead.into()
+        })
     }
 
     /// Takes in a node by its kind.
