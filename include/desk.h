@@ -1,6 +1,6 @@
 /*
- * The library for C, and for any language that calls C: rt staticlib desk_exports writes
- * target/staticlib/libdesk_exports.a, to be linked into x86-64 Linux programs.
+ * The library for C, and for any language that calls C: rt lib, in crates/desk_exports, writes
+ * crates/desk_exports/out/libdesk_exports.a, to be linked into x86-64 Linux programs.
  *
  * A slice is passed as a pointer and, right after it, its length in entries. The pointer is never
  * NULL, not even where the length is 0. Everything that a call writes to is lent to it alone: no

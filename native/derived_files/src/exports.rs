@@ -4,7 +4,7 @@
 const BEGINNING: &str = "pub extern \"C\" fn ";
 
 /// What marks it.
-const MARK: &str = "#[no_mangle]\n";
+const MARK: &str = "#[unsafe(no_mangle)]\n";
 
 #[derive(Clone, Debug, PartialEq, Eq)]
 pub struct Export {

@@ -38,9 +38,9 @@ pub fn source() -> String {
     format!("crates/{EXPORTS_CRATE}/src/lib.rt")
 }
 
-/// The library, where `rt staticlib` puts it.
+/// The library, where `rt lib` puts it.
 pub fn archive() -> String {
-    format!("target/staticlib/lib{EXPORTS_CRATE}.a")
+    format!("crates/{EXPORTS_CRATE}/out/lib{EXPORTS_CRATE}.a")
 }
 
 /// Every derived file.

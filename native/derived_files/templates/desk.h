@@ -1,5 +1,5 @@
 /*
- * The library for C, and for any language that calls C: rt staticlib {crate} writes
+ * The library for C, and for any language that calls C: rt lib, in crates/{crate}, writes
  * {archive}, to be linked into x86-64 Linux programs.
  *
  * A slice is passed as a pointer and, right after it, its length in entries. The pointer is never

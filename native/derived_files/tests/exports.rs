@@ -10,7 +10,7 @@ fn inner(x: u64) -> u64
 
 // Weighs things,
 // 2 × each.
-#[no_mangle]
+#[unsafe(no_mangle)]
 pub extern "C" fn desk_weigh(
     of: u64,
     most: u16,
@@ -50,7 +50,7 @@ fn an_export_is_read_with_its_comment() {
 #[test]
 fn a_signature_in_one_line_is_read_too() {
     let line =
-        "// One.\n#[no_mangle]\npub extern \"C\" fn desk_one(n: u64, out: &mut u64) -> u64\n";
+        "// One.\n#[unsafe(no_mangle)]\npub extern \"C\" fn desk_one(n: u64, out: &mut u64) -> u64\n";
     let exports = read(&format!("{line}    ensures {{ n }}\n{SOURCE}")).unwrap();
     assert_eq!(exports.len(), 2);
     assert_eq!(exports[0].comment, "One.");
@@ -62,7 +62,7 @@ fn a_signature_in_one_line_is_read_too() {
 fn what_cannot_be_declared_is_refused() {
     for (part, other) in [
         ("// Weighs things,\n// 2 × each.\n", ""),
-        ("#[no_mangle]\n", ""),
+        ("#[unsafe(no_mangle)]\n", ""),
         ("extern \"C\" fn", "fn"),
         ("of: u64", "of: u32"),
         ("of: u64", "of: &u64"),

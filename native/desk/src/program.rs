@@ -7,9 +7,9 @@ use std::process::{self, Command};
 use std::sync::atomic::{AtomicUsize, Ordering};
 use std::sync::OnceLock;
 
-/// Where `rt check desk` puts the program.
+/// Where `rt run` in the program's folder, and `rt ci`, put the program.
 pub fn built() -> PathBuf {
-    Path::new(env!("CARGO_MANIFEST_DIR")).join("../../target/bin/desk")
+    Path::new(env!("CARGO_MANIFEST_DIR")).join("../../crates/desk/out/desk")
 }
 
 /// A folder for the program to run in, removed in the end.

@@ -1,6 +1,6 @@
 //! Best responses by themselves, on what is prepared once of a game, beside plain Rust by the
-//! same method. The proved ones are made by `target/bin/time_responses` (after
-//! `rt check time_responses`): two runs differ by the best responses that one makes more.
+//! same method. The proved ones are made by the program `time_responses` (after `rt run` in
+//! `crates/time_responses`): two runs differ by the best responses that one makes more.
 
 use desk::plain::responses::Prepared;
 use desk::plain::BitLoop;
@@ -58,7 +58,7 @@ fn refused(refusal: Refusal) -> io::Error {
 }
 
 fn program() -> PathBuf {
-    Path::new(env!("CARGO_MANIFEST_DIR")).join("../../target/bin/time_responses")
+    Path::new(env!("CARGO_MANIFEST_DIR")).join("../../crates/time_responses/out/time_responses")
 }
 
 fn main() -> io::Result<()> {
