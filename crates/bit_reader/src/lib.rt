@@ -52,7 +52,7 @@ pub struct Pair {
 }
 
 impl Pair {
-    // The fields of `first` and of `second` bits from bit `at` on. A caller of this has no reader of its own, so its proof is no walk by hand.
+    // The fields of `first` and of `second` bits from bit `at` on. A caller of this has no reader of its own.
     pub fn read(bytes: &[u8], at: usize, first: usize, second: usize) -> Self
         requires { (first ≤ 64) × (second ≤ 64) × (at + first + second < 2 ^ 64) }
         ensures { (result.first ≡ field bytes.now at first) × (result.second ≡ field bytes.now (at + first) second) × (result.first < 2 ^ first) × (result.second < 2 ^ second) }

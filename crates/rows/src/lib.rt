@@ -1,5 +1,4 @@
 // The payoff table of a game as rows, each a small struct, into a lent slice: each row is made from its leaves.
-// Only the functions that take the rows have a proof that walks their code by hand.
 #![tactic(auto)]
 
 ghost use Rattle.std.specs.Prelude.{◌≡◌, map, ℕ, ◌≤◌, ◌<◌, leb, length};
