@@ -58,11 +58,9 @@ impl Pair {
         ensures { (result.first ≡ field bytes.now at first) × (result.second ≡ field bytes.now (at + first) second) × (result.first < 2 ^ first) × (result.second < 2 ^ second) }
     {
         let mut reader = Reader::new(bytes, at);
-        let one = reader.next(first);
-        let two = reader.next(second);
         Pair {
-            first: one,
-            second: two,
+            first: reader.next(first),
+            second: reader.next(second),
         }
     }
 }

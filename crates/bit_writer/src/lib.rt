@@ -1,10 +1,10 @@
-// A writer of a file's bits: lent bytes and a place among their bits. Each function is thin: the writing itself is `bits::put_field`.
+// A writer of a file's bits, lent bytes and a place among their bits, and fields put in a row by it. Each function is thin: the writing itself is `bits::put_field`.
 #![tactic(auto)]
 
 ghost use Rattle.std.specs.Prelude.{◌≡◌, ◌++◌, ◌+◌, ◌*◌, ◌≤◌, ◌<◌, ◌^◌, length};
 ghost use Rattle.model.specs.Bits.{bits};
 ghost use Rattle.bits.specs.Puts.{bits_put};
-ghost use Rattle.bit_writer.specs.Writers.{writer_at, past};
+ghost use Rattle.bit_writer.specs.Writers.{writer_at, past, fields_bits, FieldsFit};
 
 #[derive(Drop)]
 pub struct Writer<'a> {
@@ -38,14 +38,25 @@ impl<'a> Writer<'a> {
     }
 }
 
+// Fields in a row, each a width and a number, the first from bit `at` on.
+pub fn put_fields(out: &mut [u8], at: usize, fields: &[(usize, u64)])
+    requires { FieldsFit at fields.now out.old }
+    ensures { out.new ≡ bits_put out.old at (fields_bits fields.now) }
+{
+    let mut writer = Writer::new(out, at);
+    for field in fields {
+        let (width, number) = *field;
+        writer.put(width, number);
+    }
+}
+
 // Two fields in a row, the first from bit `at` on.
+// This and `put_four` stay beside `put_fields`, since they may not change: they are public, docs/ARCHITECTURE.md names them, and their clauses with their edits stay.
 pub fn put_two(out: &mut [u8], at: usize, first: usize, one: u64, second: usize, two: u64)
     requires { (first ≤ 64) × (second ≤ 64) × (at + first + second < 2 ^ 64) × (at + first + second ≤ 8 * length out.old) }
     ensures { out.new ≡ bits_put out.old at (bits first one ++ bits second two) }
 {
-    let mut writer = Writer::new(out, at);
-    writer.put(first, one);
-    writer.put(second, two);
+    put_fields(out, at, &[(first, one), (second, two)]);
 }
 
 // Four fields in a row, the first from bit `at` on.
@@ -64,9 +75,9 @@ pub fn put_four(
     requires { (first ≤ 64) × (second ≤ 64) × (third ≤ 64) × (fourth ≤ 64) × (at + first + second + third + fourth < 2 ^ 64) × (at + first + second + third + fourth ≤ 8 * length out.old) }
     ensures { out.new ≡ bits_put out.old at (bits first one ++ bits second two ++ bits third three ++ bits fourth four) }
 {
-    let mut writer = Writer::new(out, at);
-    writer.put(first, one);
-    writer.put(second, two);
-    writer.put(third, three);
-    writer.put(fourth, four);
+    put_fields(
+        out,
+        at,
+        &[(first, one), (second, two), (third, three), (fourth, four)],
+    );
 }

@@ -1,4 +1,5 @@
 // A file's bits: fields and runs read from bytes and put into them, and what turns one number into another.
+// A width is a plain `usize`: callers give constants, of which the check sees that they are at most 64; a type for that would be no plainer.
 #![tactic(auto)]
 
 ghost use Rattle.std.specs.Prelude.{◌≡◌, suc, ◌+◌, ◌-◌, ◌/◌, ◌%◌, ◌^◌, ◌≤◌, ◌<◌};
@@ -10,24 +11,14 @@ pub mod runs;
 pub use one_field::put_field;
 pub use runs::{put_run, read_run};
 
-// A byte as a number of 64 bits. A cast where the byte is read would ask for a proof that it fits.
-fn wide(x: u8) -> u64
-    ensures { result ≡ x }
-{
-    x as u64
-}
-
 // Bit `at` of the bytes, counted from the most significant bit of the first; 0 past their end.
 pub fn read_bit(bytes: &[u8], at: usize) -> u64
     ensures { (result ≡ bit bytes.now at) × (result < 2) }
 {
-    let i = at / 8;
-    if i < bytes.len() {
-        let byte = wide(bytes[i]);
-        (byte >> (7 - at % 8)) % 2
-    } else {
-        0
-    }
+    let Some(byte) = bytes.get(at / 8) else {
+        return 0;
+    };
+    digit(u64::from(*byte), 8, at % 8)
 }
 
 // The number in the `width` bits from bit `at` on, most significant first; 0 for each bit past the end.
@@ -37,15 +28,14 @@ pub fn read_field(bytes: &[u8], at: usize, width: usize) -> u64
     ensures { (result ≡ field bytes.now at width) × (result < 2 ^ width) }
 {
     let mut value: u64 = 0;
-    let mut i: usize = 0;
-    while i < width {
+    for i in 0..width {
         value = 2 * value + read_bit(bytes, at + i);
-        i += 1;
     }
     value
 }
 
 // A field as an index: a `usize` has 64 bits.
+// It may not change: it is public, and the proofs of callers in four crates name its calls.
 pub fn index(x: u64) -> usize
     ensures { result ≡ x }
 {
@@ -68,27 +58,19 @@ pub fn cut(word: u64, below: usize, width: usize) -> u64
     (word >> below) % power(width)
 }
 
-// A field of 16 bits as two's complement: `x - 65536` in steps that each fit an `i16`.
+// A field of 16 bits as two's complement.
 pub fn signed16(x: u64) -> i16
     requires { x < 2 ^ 16 }
     ensures { result ≡ signed 16 x }
 {
-    if x < 32768 {
-        x as i16
-    } else {
-        -1 - ((65535 - x) as i16)
-    }
+    (x as u16).cast_signed()
 }
 
-// The same number's field, from the integer: `65536 + x` in steps that each fit.
+// The same number's field, from the integer.
 pub fn unsigned16(x: i16) -> u64
     ensures { (result ≡ twos_complement 16 x) × (result < 2 ^ 16) }
 {
-    if x < 0 {
-        65535 - ((-1 - x) as u64)
-    } else {
-        x as u64
-    }
+    u64::from(x.cast_unsigned())
 }
 
 // Bit `i` of the `width` bits of `n`, most significant first.

@@ -1,5 +1,5 @@
 // Fields put into bytes.
-ghost use Rattle.std.specs.Prelude.{◌≡◌, ◌+◌, ◌*◌, ◌^◌, ◌≤◌, ◌<◌, min, length};
+ghost use Rattle.std.specs.Prelude.{◌≡◌, ◌+◌, ◌*◌, ◌^◌, ◌≤◌, ◌<◌, length};
 ghost use Rattle.bits.specs.Puts.{part_put_of, field_put};
 
 // A number, and `low` in `width` bits after it.
@@ -15,20 +15,14 @@ fn part_put(byte: u8, at: usize, width: usize, number: u64) -> u8
     requires { (at + width ≤ 8) × (number < 2 ^ width) }
     ensures { result ≡ part_put_of byte at width number }
 {
-    let first = (super::wide(byte) >> (8 - at)) % super::power(at);
+    let first = (u64::from(byte) >> (8 - at)) % super::power(at);
     let rest = 8 - (at + width);
-    let last = super::wide(byte) % super::power(rest);
+    let last = u64::from(byte) % super::power(rest);
     join(join(first, width, number), rest, last) as u8
 }
 
-// The smaller of two numbers.
-fn fewer(a: usize, b: usize) -> usize
-    ensures { result ≡ min a b }
-{
-    if a < b { a } else { b }
-}
-
 // Puts a number in the `width` bits from bit `at` on, most significant first. Each byte that has some of them is stored once.
+// A turn puts as many bits as its byte has room for, so no `for` counts the turns.
 pub fn put_field(out: &mut [u8], at: usize, width: usize, number: u64)
     requires { (width ≤ 64) × (at + width < 2 ^ 64) × (at + width ≤ 8 * length out.old) }
     ensures { out.new ≡ field_put out.old at width number }
@@ -38,7 +32,7 @@ pub fn put_field(out: &mut [u8], at: usize, width: usize, number: u64)
         let i = (at + done) / 8;
         let place = (at + done) % 8;
         let left = width - done;
-        let count = fewer(left, 8 - place);
+        let count = left.min(8 - place);
         let part = (number >> (left - count)) % super::power(count);
         out[i] = part_put(out[i], place, count, part);
         done += count;

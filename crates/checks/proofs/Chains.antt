@@ -11,29 +11,58 @@ use Rattle.model.specs.Rows.{Rows, row, of, refusal}
 use Rattle.model.specs.Call.{given, refused, Buffers, lengths, long_enough, after_all, Lent, Call, Outcome, outcome, room_rows, all_rows, call_refusal, run}
 use Rattle.model.proofs.Call.{all_kept}
 use Rattle.model.proofs.Rows.{named, named_of, refusal_of_lem, refusal_append}
-use Rattle.checks.specs.declared.Checked.{Checked}
-use Rattle.checks.specs.declared.Checked.TheVariants.{Fine, Broken}
-use Rattle.checks.specs.Checked.{checked_of, number_of}
+use Rattle.std.specs.Prelude.{Result, Ok, Err}
+use Rattle.checks.specs.declared.Refusal.{Refusal}
+use Rattle.checks.specs.declared.Refusal.TheVariants.{Room}
+use Rattle.checks.specs.Answers.{refusal_number, checked_of, answered, number_of}
+
+-- the answer of a check
+abbrev pub Checked : Type 0
+Checked = Result (Unit {0}) Refusal
 
 -- a test's answer
-pub is_fine : (k : ℕ) {b : Bool} → b ≡ true → Fine ≡ checked_of k b
-is_fine k e = rw e
+pub is_fine : (e : Refusal) {b : Bool} → b ≡ true → Ok tt ≡ checked_of e b
+is_fine e t = rw t
 
-pub is_broken : (k : ℕ) {b : Bool} → b ≡ false → Broken k ≡ checked_of k b
-is_broken k e = rw e
+pub is_broken : (e : Refusal) {b : Bool} → b ≡ false → Err e ≡ checked_of e b
+is_broken e t = rw t
 
 -- a check that is fine holds
-pub fine_holds : (k : ℕ) (b : Bool) {r : Checked} → r ≡ checked_of k b → r ≡ Fine → b ≡ true
-fine_holds k true e f = refl
-fine_holds k false e f = let z : ◌≡◌ {A = ℕ} 0 1 = cc in absurd (omega arith)
+pub fine_holds : (e : Refusal) (b : Bool) {r : Checked} {u : Unit {0}} → r ≡ checked_of e b → r ≡ Ok u → b ≡ true
+fine_holds e true c f = refl
+fine_holds e false c f = absurd cc
 
-pub fine_test : (k : ℕ) (b : Bool) {r : Checked} → r ≡ checked_of k b → r ≡ Fine → T b
-fine_test k b e f = rw (fine_holds k b e f) tt
+pub fine_test : (e : Refusal) (b : Bool) {r : Checked} {u : Unit {0}} → r ≡ checked_of e b → r ≡ Ok u → T b
+fine_test e b c f = rw (fine_holds e b c f) tt
 
--- one that is broken does not, and has its own number
-pub broken_fails : (k : ℕ) (b : Bool) {r : Checked} {n : ℕ} → r ≡ checked_of k b → r ≡ Broken n → (b ≡ false) × (number_of r ≡ k)
-broken_fails k false e f = (refl, ap number_of e)
-broken_fails k true e f = let z : ◌≡◌ {A = ℕ} 0 1 = cc in absurd (omega arith)
+-- one that is broken does not, and has its own refusal
+pub broken_fails : (e : Refusal) (b : Bool) {r : Checked} {d : Refusal} → r ≡ checked_of e b → r ≡ Err d → (b ≡ false) × (d ≡ e)
+broken_fails e false c f = (refl, cc)
+broken_fails e true c f = absurd (cc)
+
+-- every refusal has a number above 0, and no two have one
+pub number_some : (e : Refusal) → ¬ (refusal_number e ≡ 0)
+number_some Refusal.NoHeader z = omega arith
+number_some Refusal.WrongEdition z = omega arith
+number_some Refusal.ZeroCount z = omega arith
+number_some Refusal.WrongLength z = omega arith
+number_some Refusal.SetMoves z = omega arith
+number_some Refusal.NodeForm z = omega arith
+number_some Refusal.PayloadRange z = omega arith
+number_some Refusal.Attachment z = omega arith
+number_some Refusal.MissingMove z = omega arith
+number_some Refusal.ChanceWeights z = omega arith
+number_some Refusal.PathLength z = omega arith
+number_some Refusal.EmptySet z = omega arith
+number_some Refusal.Recall z = omega arith
+number_some Refusal.PlanLength z = omega arith
+number_some Refusal.PlanForm z = omega arith
+number_some Refusal.PlanUnfit z = omega arith
+number_some Refusal.Number z = omega arith
+number_some Refusal.Room z = omega arith
+number_some Refusal.SheetForm z = omega arith
+number_some Refusal.NoOdds z = omega arith
+number_some Refusal.NoDenominator z = omega arith
 
 -- A refusal with its number.
 pub record Refuses {A : Type 0} (rows : Rows A) (a : A) (n : ℕ) : Type 0 where
@@ -50,20 +79,16 @@ module _ {A : Type 0} where
   begin whole a = record { same = refl }
 
   -- a check is fine
-  pub passes : {whole rest : Rows A} {k : ℕ} {test : A → Bool} {P : A → Type 0} {a : A} {r : Checked} → Left whole (row k test P ∷ rest) a → r ≡ checked_of k (test a) → r ≡ Fine → Left whole rest a
+  pub passes : {whole rest : Rows A} {k : ℕ} {test : A → Bool} {P : A → Type 0} {a : A} (e : Refusal) {r : Checked} {u : Unit {0}} → Left whole (row k test P ∷ rest) a → r ≡ checked_of e (test a) → r ≡ Ok u → Left whole rest a
   unfolding refusal
-  passes {rest = rest} {k} {test} {a = a} l e f = record { same = l.same ∙ rw (fine_holds k (test a) e f) }
+  passes {rest = rest} {k} {test} {a = a} e l c f = record { same = l.same ∙ rw (fine_holds e (test a) c f) }
 
   -- a check is broken: its number is the refusal
-  pub stops : {whole rest : Rows A} {k : ℕ} {test : A → Bool} {P : A → Type 0} {a : A} {r : Checked} {n m : ℕ} → Left whole (row (suc k) test P ∷ rest) a → r ≡ checked_of (suc k) (test a) → r ≡ Broken n → m ≡ number_of r → Refuses whole a m
+  pub stops : {whole rest : Rows A} {k : ℕ} {test : A → Bool} {P : A → Type 0} {a : A} (e : Refusal) {d : Refusal} {r : Checked} → Left whole (row k test P ∷ rest) a → refusal_number e ≡ k → r ≡ checked_of e (test a) → r ≡ Err d → Refuses whole a (refusal_number d)
   unfolding refusal
-  stops {k = k} {test} {a = a} {m = m} l e f g =
-      let h = broken_fails (suc k) (test a) e f in
-      record { is = l.same ∙ rw h.0 (sym (g ∙ h.1)); some = λ z. omega (arith, g, h.1) }
-
-  -- the same, with the number that it is
-  pub stops_at : {whole rest : Rows A} {k : ℕ} {test : A → Bool} {P : A → Type 0} {a : A} {r : Checked} {n m : ℕ} → Left whole (row (suc k) test P ∷ rest) a → r ≡ checked_of (suc k) (test a) → r ≡ Broken n → m ≡ number_of r → Refuses whole a m × (m ≡ suc k)
-  stops_at {k = k} {test} {a = a} l e f g = (stops l e f g, g ∙ (broken_fails (suc k) (test a) e f).1)
+  stops {k = k} {test} {a = a} e {d} l n c f =
+      let h = broken_fails e (test a) c f in
+      record { is = l.same ∙ rw h.0 (sym n ∙ ap refusal_number (sym h.1)); some = number_some d }
 
   -- all are fine
   pub ends : {whole : Rows A} {a : A} → Left whole [] a → refusal whole a ≡ 0
@@ -110,24 +135,24 @@ module _ {I R : Type 0} {shape : List (Type 0)} (c : Call I shape R) (some : T (
   begun_room e = passes_all (of (λ x. x.input) c.rows) (room_rows c) (named_of (λ (x : Lent I (Buffers shape)). x.input) c.rows some) begun (refusal_of_lem (λ (x : Lent I (Buffers shape)). x.input) c.rows lent ∙ e)
 
   -- 18
-  pub call_short : refusal c.rows i ≡ 0 → {r : Checked} {n m : ℕ} → r ≡ checked_of 18 (long_enough (lengths shape (c.written i)) (lengths shape b)) → r ≡ Broken n → m ≡ number_of r → run c i b ≡ outcome (refused m) b
+  pub call_short : refusal c.rows i ≡ 0 → {r : Checked} {d : Refusal} → r ≡ checked_of Room (long_enough (lengths shape (c.written i)) (lengths shape b)) → r ≡ Err d → run c i b ≡ outcome (refused (refusal_number d)) b
   unfolding call_refusal room_rows
-  call_short e f g h = let s = stops (begun_room e) f g h in ended _ s.some s.is
+  call_short e f g = let s = stops Room (begun_room e) refl f g in ended _ s.some s.is
 
   -- the result
   pub call_gives : refusal c.rows i ≡ 0 → long_enough (lengths shape (c.written i)) (lengths shape b) ≡ true → run c i b ≡ outcome (given (c.result i)) (after_all shape 0 (c.written i) b)
   unfolding run call_refusal room_rows
-  call_gives e f = rw (ends (passes {r = Fine} (begun_room e) (is_fine 18 f) refl))
+  call_gives e f = rw (ends (passes Room {r = Ok tt} (begun_room e) (is_fine Room f) refl))
 
--- two tests in a row under one number: where the first is broken, its answer
-pub first_broken : (k : ℕ) (a b : Bool) {r : Checked} {n : ℕ} → r ≡ checked_of k a → r ≡ Broken n → r ≡ checked_of k (a && b)
-first_broken k true b e f = let z : ◌≡◌ {A = ℕ} 0 1 = cc in absurd (omega arith)
-first_broken k false b e f = e
+-- two tests in a row under one refusal: where the first is broken, its answer
+pub first_broken : (e : Refusal) (a b : Bool) {r : Checked} {d : Refusal} → r ≡ checked_of e a → r ≡ Err d → r ≡ checked_of e (a && b)
+first_broken e true b c f = absurd cc
+first_broken e false b c f = c
 
 -- and where it is fine: the second's
-pub then_second : (k : ℕ) (a b : Bool) {r s : Checked} → r ≡ checked_of k a → r ≡ Fine → s ≡ checked_of k b → s ≡ checked_of k (a && b)
-then_second k true b e f second = second
-then_second k false b e f second = let z : ◌≡◌ {A = ℕ} 0 1 = cc in absurd (omega arith)
+pub then_second : (e : Refusal) (a b : Bool) {r s : Checked} {u : Unit {0}} → r ≡ checked_of e a → r ≡ Ok u → s ≡ checked_of e b → s ≡ checked_of e (a && b)
+then_second e true b c f second = second
+then_second e false b c f second = absurd cc
 
 -- what a call whose checks but 18 hold leaves, by the test of room
 abbrev pub in_room : {R : Type 0} {shape : List (Type 0)} → Bool → R → (results buffers : Buffers shape) → Outcome shape R
@@ -139,7 +164,7 @@ call_room {R = R} {shape = shape} c some i b e = go (long_enough (lengths shape 
   where
     go : (t : Bool) → long_enough (lengths shape (c.written i)) (lengths shape b) ≡ t → run c i b ≡ in_room {R = R} {shape = shape} t (c.result i) (c.written i) b
     go true f = call_gives c some i b e f
-    go false f = call_short c some i b e {r = Broken 18} {n = 18} {m = 18} (is_broken 18 f) refl refl
+    go false f = call_short c some i b e {r = Err Room} {d = Room} (is_broken Room f) refl
 
 -- Two calls that refuse alike, and where they do not refuse give and write the same, do the same.
 pub same_run : {I J R : Type 0} {shape : List (Type 0)} (c : Call I shape R) (d : Call J shape R) → T (named c.rows) → T (named d.rows) → (i : I) (j : J) (b : Buffers shape) → refusal c.rows i ≡ refusal d.rows j → (refusal d.rows j ≡ 0 → (c.result i ≡ d.result j) × (c.written i ≡ d.written j)) → run c i b ≡ run d j b

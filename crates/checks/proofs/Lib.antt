@@ -1,3 +1,4 @@
+pub mod AnswerLaws
 pub mod Chains
 pub mod Files
 pub mod NoBuffer

@@ -5,8 +5,9 @@ use mathlib.Core.Bool.{Bool, true, false}
 use native.Mathlib.Omega.{arith}
 use Rattle.algebra.specs.Bounded.{all_to}
 use Rattle.algebra.proofs.Searches.{all_to_none, all_to_more, all_to_stop}
-use Rattle.checks.specs.declared.Checked.TheVariants.{Fine, Broken}
-use Rattle.checks.specs.Checked.{checked_of}
+use Rattle.std.specs.Prelude.{Ok, Err}
+use Rattle.checks.specs.declared.Refusal.{Refusal}
+use Rattle.checks.specs.Answers.{checked_of}
 use Rattle.checks.proofs.Chains.{is_fine, is_broken}
 
 -- a test passes at each number below n, on the way to a bound
@@ -26,12 +27,12 @@ module _ (p : ℕ → Bool) (bound : ℕ) where
   pub passed_false : (n : ℕ) (b : Bool) → n < bound → b ≡ p n → b ≡ false → false ≡ all_to bound p
   passed_false n b l is f = sym (all_to_stop p bound n l (sym is ∙ f))
 
-  pub passed_not : (k n : ℕ) (b : Bool) → n < bound → b ≡ p n → b ≡ false → Broken k ≡ checked_of k (all_to bound p)
-  passed_not k n b l is f = is_broken k (sym (passed_false n b l is f))
+  pub passed_not : (e : Refusal) (n : ℕ) (b : Bool) → n < bound → b ≡ p n → b ≡ false → Err e ≡ checked_of e (all_to bound p)
+  passed_not e n b l is f = is_broken e (sym (passed_false n b l is f))
 
   -- the bound is reached
   pub passed_true : (n : ℕ) → Passed p bound n → bound ≤ n → true ≡ all_to bound p
   passed_true n h l = let e : n ≡ bound = omega arith in sym (rw e at h.1)
 
-  pub passed_all : (k n : ℕ) → Passed p bound n → bound ≤ n → Fine ≡ checked_of k (all_to bound p)
-  passed_all k n h l = is_fine k (sym (passed_true n h l))
+  pub passed_all : (e : Refusal) (n : ℕ) → Passed p bound n → bound ≤ n → Ok tt ≡ checked_of e (all_to bound p)
+  passed_all e n h l = is_fine e (sym (passed_true n h l))

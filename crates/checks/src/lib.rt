@@ -1,73 +1,79 @@
-// The answer of a check, the checks that calls share, and the answer of a call that puts bytes.
+// Why a file or a call is refused, and the checks that calls share.
 #![tactic(auto)]
 
 ghost use Rattle.std.specs.Prelude.{◌≡◌, ◌&&◌, leb, ltb};
-ghost use Rattle.model.specs.Exported.{refusal_of};
-ghost use Rattle.checks.specs.Answers.{write_answered};
-ghost use Rattle.checks.specs.Checked.{checked_of, number_of};
+ghost use Rattle.checks.specs.declared.Refusal.TheVariants.{Number, Room};
+ghost use Rattle.checks.specs.Answers.{refusal_number, checked_of, number_of};
 
-// The answer of one check: it holds, or the number of its refusal.
-#[derive(Clone, Copy)]
-pub enum Checked {
-    Fine,
-    Broken(u64),
+// Why a call refuses, in the order in which the checks are made. What is printed, and what an export returns, is its number.
+#[derive(Clone, Copy, Debug, PartialEq, Eq)]
+pub enum Refusal {
+    NoHeader = 1,
+    WrongEdition,
+    ZeroCount,
+    WrongLength,
+    SetMoves,
+    NodeForm,
+    PayloadRange,
+    Attachment,
+    MissingMove,
+    ChanceWeights,
+    PathLength,
+    EmptySet,
+    Recall,
+    PlanLength,
+    PlanForm,
+    PlanUnfit,
+    Number,
+    Room,
+    SheetForm,
+    NoOdds,
+    NoDenominator,
 }
 
-// The number of a check's refusal, or 0.
-pub fn number(checked: Checked) -> u64
-    ensures { result ≡ number_of checked }
-{
-    match checked {
-        Checked::Fine => 0,
-        Checked::Broken(number) => number,
+impl Refusal {
+    // Its number, from 1 on.
+    pub fn number(self) -> u64
+        ensures { result ≡ refusal_number self }
+    {
+        self as u64
     }
 }
 
-// The check with this number, by its test.
-pub fn check(number: u64, holds: bool) -> Checked
-    ensures { result ≡ checked_of number holds }
+// The check that refuses so, by its test.
+pub fn check(refusal: Refusal, holds: bool) -> Result<(), Refusal>
+    ensures { result ≡ checked_of refusal holds }
 {
-    if holds {
-        Checked::Fine
-    } else {
-        Checked::Broken(number)
-    }
+    if holds { Ok(()) } else { Err(refusal) }
 }
 
-// Check 17 of a look-up: whether a number asked for is one of `count`.
-pub fn in_game(number: u64, count: u64) -> Checked
-    ensures { result ≡ checked_of 17 (ltb number count) }
+// Of a look-up: whether a number asked for is one of `count`.
+pub fn in_game(number: u64, count: u64) -> Result<(), Refusal>
+    ensures { result ≡ checked_of Number (ltb number count) }
 {
-    check(17, number < count)
+    check(Refusal::Number, number < count)
 }
 
-// Check 18: whether a buffer of `room` entries holds a result of `size`.
-pub fn has_room(size: usize, room: usize) -> Checked
-    ensures { result ≡ checked_of 18 (leb size room) }
+// Whether a buffer of `room` entries holds a result of `size`.
+pub fn has_room(size: usize, room: usize) -> Result<(), Refusal>
+    ensures { result ≡ checked_of Room (leb size room) }
 {
-    check(18, size <= room)
+    check(Refusal::Room, size <= room)
 }
 
 // Of several buffers: whether a result of `size` entries fits a buffer of `room`, and the later ones fit theirs.
 pub fn room_and(size: usize, room: usize, later: bool) -> bool
     ensures { result ≡ (leb size room && later) }
 {
-    if size <= room { later } else { false }
-}
-
-// The answer of what puts bytes into a lent buffer: how many, or the refusal: 17 or 18 of a writer, 1 to 16 or 18 of the report, 18 of a refusal's line.
-#[derive(Clone, Copy)]
-pub enum WriteAnswer {
-    Written(usize),
-    Refused(u64),
+    size <= room && later
 }
 
 // The number of an answer's refusal, or 0.
-pub fn refusal(answer: WriteAnswer) -> u64
-    ensures { result ≡ refusal_of (write_answered answer) }
+pub fn number<T: Drop>(answer: Result<T, Refusal>) -> u64
+    ensures { result ≡ number_of answer }
 {
     match answer {
-        WriteAnswer::Written(_) => 0,
-        WriteAnswer::Refused(number) => number,
+        Ok(_) => 0,
+        Err(refusal) => refusal.number(),
     }
 }

@@ -3,127 +3,85 @@
 
 ghost use Rattle.std.specs.Prelude.{◌≡◌, ◌≤◌, ◌<◌, length, set};
 ghost use Rattle.algebra.specs.Arrays.{over};
-ghost use Rattle.model.specs.Game.{game_of, one, two};
-ghost use Rattle.model.specs.Writing.{payoff_field, player_field, set_field, moves_field, field_lists};
-ghost use Rattle.records.specs.Records.{Framed};
+ghost use Rattle.model.specs.Game.{game_of};
+ghost use Rattle.model.specs.Writing.{player_field};
+ghost use Rattle.records.specs.Records.{Framed, payoff1_in, payoff2_in};
 ghost use Rattle.columns.specs.Columns.{FieldsFit, filled};
+ghost use Rattle.columns.specs.Buffers.{held, SameBuffers, NodeFits, with_node, with_nodes};
 
 use records::{Header, NodeRecord, Payload, SetEntry};
+
+// A buffer for each field of a game, lent for it.
+#[derive(Drop)]
+pub struct GameBuffers<'a> {
+    pub set_players: &'a mut [u64],
+    pub set_moves: &'a mut [u64],
+    pub kinds: &'a mut [u64],
+    pub parents: &'a mut [u64],
+    pub moves: &'a mut [u64],
+    pub weights: &'a mut [u64],
+    pub node_sets: &'a mut [u64],
+    pub chance_moves: &'a mut [u64],
+    pub payoffs1: &'a mut [i64],
+    pub payoffs2: &'a mut [i64],
+}
 
 // The player and the move count of each set, in one pass.
 fn set_columns(bytes: &[u8], sets: usize, players: &mut [u64], moves: &mut [u64])
     requires { (sets ≡ (game_of bytes.now).sets) × (sets ≤ length players.old) × (sets ≤ length moves.old) }
     ensures { (players.new ≡ over (player_field (game_of bytes.now)) (game_of bytes.now).sets players.old) × (moves.new ≡ over (game_of bytes.now).set_moves (game_of bytes.now).sets moves.old) }
 {
-    let mut h = 0;
-    while h < sets {
+    for h in 0..sets {
         let entry = SetEntry::read(bytes, h);
         players[h] = entry.player;
         moves[h] = entry.moves as u64;
-        h += 1;
     }
 }
 
 // The payoffs of node `n` into place `n` of their lists.
 fn put_payoffs(payload: Payload, n: usize, payoffs1: &mut [i64], payoffs2: &mut [i64])
     requires { (n < length payoffs1.old) × (n < length payoffs2.old) }
-    ensures { (payoffs1.new ≡ set payoffs1.old n payload.payoff1) × (payoffs2.new ≡ set payoffs2.old n payload.payoff2) }
+    ensures { (payoffs1.new ≡ set payoffs1.old n (payoff1_in payload)) × (payoffs2.new ≡ set payoffs2.old n (payoff2_in payload)) }
 {
-    payoffs1[n] = payload.payoff1 as i64;
-    payoffs2[n] = payload.payoff2 as i64;
+    let (payoff1, payoff2) = payload.payoffs();
+    payoffs1[n] = i64::from(payoff1);
+    payoffs2[n] = i64::from(payoff2);
 }
 
-// The fields of node `n` into place `n` of each list.
-fn put_node(
-    node: NodeRecord,
-    n: usize,
-    kinds: &mut [u64],
-    parents: &mut [u64],
-    moves: &mut [u64],
-    weights: &mut [u64],
-    node_sets: &mut [u64],
-    chance_moves: &mut [u64],
-    payoffs1: &mut [i64],
-    payoffs2: &mut [i64],
-)
-    requires { (n < length kinds.old) × (n < length parents.old) × (n < length moves.old) × (n < length weights.old) × (n < length node_sets.old) × (n < length chance_moves.old) × (n < length payoffs1.old) × (n < length payoffs2.old) }
-    ensures { (kinds.new ≡ set kinds.old n node.kind) × (parents.new ≡ set parents.old n node.parent) × (moves.new ≡ set moves.old n node.place) × (weights.new ≡ set weights.old n node.weight) × (node_sets.new ≡ set node_sets.old n node.payload.set) × (chance_moves.new ≡ set chance_moves.old n node.payload.moves) × (payoffs1.new ≡ set payoffs1.old n node.payload.payoff1) × (payoffs2.new ≡ set payoffs2.old n node.payload.payoff2) }
-{
-    kinds[n] = node.kind;
-    parents[n] = node.parent as u64;
-    moves[n] = node.place as u64;
-    weights[n] = node.weight;
-    node_sets[n] = node.payload.set as u64;
-    chance_moves[n] = node.payload.moves as u64;
-    put_payoffs(node.payload, n, payoffs1, payoffs2);
-}
-
-// Every field of each node, in one pass over the records; 0 where a node's kind lacks a number.
-fn node_columns(
-    bytes: &[u8],
-    records: usize,
-    nodes: usize,
-    kinds: &mut [u64],
-    parents: &mut [u64],
-    moves: &mut [u64],
-    weights: &mut [u64],
-    node_sets: &mut [u64],
-    chance_moves: &mut [u64],
-    payoffs1: &mut [i64],
-    payoffs2: &mut [i64],
-)
-    requires { Framed bytes.now records nodes × (nodes ≤ length kinds.old) × (nodes ≤ length parents.old) × (nodes ≤ length moves.old) × (nodes ≤ length weights.old) × (nodes ≤ length node_sets.old) × (nodes ≤ length chance_moves.old) × (nodes ≤ length payoffs1.old) × (nodes ≤ length payoffs2.old) }
-    ensures { (kinds.new ≡ over (game_of bytes.now).kind (game_of bytes.now).nodes kinds.old) × (parents.new ≡ over (game_of bytes.now).parent (game_of bytes.now).nodes parents.old) × (moves.new ≡ over (game_of bytes.now).move (game_of bytes.now).nodes moves.old) × (weights.new ≡ over (game_of bytes.now).weight (game_of bytes.now).nodes weights.old) × (node_sets.new ≡ over (set_field (game_of bytes.now)) (game_of bytes.now).nodes node_sets.old) × (chance_moves.new ≡ over (moves_field (game_of bytes.now)) (game_of bytes.now).nodes chance_moves.old) × (payoffs1.new ≡ over (payoff_field (game_of bytes.now) one) (game_of bytes.now).nodes payoffs1.old) × (payoffs2.new ≡ over (payoff_field (game_of bytes.now) two) (game_of bytes.now).nodes payoffs2.old) }
-{
-    let mut n = 0;
-    while n < nodes {
-        let node = NodeRecord::read(bytes, records, n);
-        put_node(
-            node,
-            n,
-            kinds,
-            parents,
-            moves,
-            weights,
-            node_sets,
-            chance_moves,
-            payoffs1,
-            payoffs2,
-        );
-        n += 1;
+impl<'a> GameBuffers<'a> {
+    // The fields of node `n` into place `n` of each list.
+    fn put_node(&mut self, node: NodeRecord, n: usize)
+        requires { NodeFits n (held self.old) }
+        ensures fields { held self.new ≡ with_node node n (held self.old) }
+        ensures same { SameBuffers self.old self.new }
+    {
+        self.kinds[n] = node.payload.kind().number();
+        self.parents[n] = node.parent as u64;
+        self.moves[n] = node.place as u64;
+        self.weights[n] = node.weight;
+        self.node_sets[n] = node.payload.set() as u64;
+        self.chance_moves[n] = node.payload.moves() as u64;
+        put_payoffs(node.payload, n, self.payoffs1, self.payoffs2);
     }
-}
 
-// Every column into its buffer.
-pub fn fill_all(
-    bytes: &[u8],
-    header: Header,
-    set_players: &mut [u64],
-    set_moves: &mut [u64],
-    kinds: &mut [u64],
-    parents: &mut [u64],
-    moves: &mut [u64],
-    weights: &mut [u64],
-    node_sets: &mut [u64],
-    chance_moves: &mut [u64],
-    payoffs1: &mut [i64],
-    payoffs2: &mut [i64],
-)
-    requires { Framed bytes.now header.records header.nodes × (header.sets ≡ (game_of bytes.now).sets) × FieldsFit header.sets header.nodes (field_lists set_players.old set_moves.old kinds.old parents.old moves.old weights.old node_sets.old chance_moves.old payoffs1.old payoffs2.old) }
-    ensures { field_lists set_players.new set_moves.new kinds.new parents.new moves.new weights.new node_sets.new chance_moves.new payoffs1.new payoffs2.new ≡ filled (game_of bytes.now) (field_lists set_players.old set_moves.old kinds.old parents.old moves.old weights.old node_sets.old chance_moves.old payoffs1.old payoffs2.old) }
-{
-    set_columns(bytes, header.sets, set_players, set_moves);
-    node_columns(
-        bytes,
-        header.records,
-        header.nodes,
-        kinds,
-        parents,
-        moves,
-        weights,
-        node_sets,
-        chance_moves,
-        payoffs1,
-        payoffs2,
-    );
+    // Every field of each node, in one pass over the records; 0 where a node's kind lacks a number.
+    fn node_columns(&mut self, bytes: &[u8], header: Header)
+        requires { Framed bytes.now header.records header.nodes × FieldsFit header.sets header.nodes (held self.old) }
+        ensures fields { held self.new ≡ with_nodes (game_of bytes.now) (held self.old) }
+        ensures same { SameBuffers self.old self.new }
+    {
+        for n in 0..header.nodes {
+            self.put_node(NodeRecord::read(bytes, header.records, n), n);
+        }
+    }
+
+    // Every column into its buffer.
+    pub fn fill_all(&mut self, bytes: &[u8], header: Header)
+        requires { Framed bytes.now header.records header.nodes × (header.sets ≡ (game_of bytes.now).sets) × FieldsFit header.sets header.nodes (held self.old) }
+        ensures fields { held self.new ≡ filled (game_of bytes.now) (held self.old) }
+        ensures same { SameBuffers self.old self.new }
+    {
+        set_columns(bytes, header.sets, self.set_players, self.set_moves);
+        self.node_columns(bytes, header);
+    }
 }

@@ -15,9 +15,10 @@ use Rattle.model.specs.Bits.{field}
 use Rattle.model.specs.Game.{Game, Player, one, two, game_of, node_at, is_decision, is_chance}
 use Rattle.model.specs.GameChecks.{padding_zero}
 use Rattle.model.specs.Writing.{set_field, moves_field}
-use Rattle.records.specs.declared.game_file.Payload.{Payload}
+use Rattle.std.specs.Prelude.{Ok, Err}
+use Rattle.checks.specs.declared.Refusal.TheVariants.{NodeForm}
 use Rattle.records.specs.declared.game_file.NodeRecord.{NodeRecord}
-use Rattle.records.specs.Records.{payload_of, NodeRead}
+use Rattle.records.specs.Records.{kind_of, set_in, moves_in, padding_in, payoff1_in, payoff2_in, payload_by, payload_of, NodeRead}
 use Rattle.records.proofs.Records.{node_set_lem, node_moves_lem, node_payoff1, node_payoff2}
 use Rattle.loaded.specs.Sections.{section_room, kind_section, payoff_section, payoffs_room}
 use Rattle.loaded.specs.Rows.{Rows}
@@ -28,14 +29,13 @@ use Rattle.loaded.proofs.NodeReads.{neither}
 use Rattle.loaded.proofs.Rows.{rows_none, rows_put, rows_next, rows_held}
 use Rattle.loaded.proofs.Gathered.{next_one, next_none, leaf_payoff, leaves_few, count_none, count_more, count_all, leaf_place}
 use Rattle.decoding.specs.Tests.{well_formed_of}
-use Rattle.decoding.specs.Puts.{payload_of_kind, node_put, payoffs_put, leaf_put, next_place}
+use Rattle.decoding.specs.Puts.{kind_put, payload_of_kind, node_put, payoffs_put, leaf_put, next_place}
 use Rattle.decoding.specs.Decoding.{PayoffsLoaded, nodes_answer}
-use Rattle.decoding.specs.declared.NodesAnswer.TheVariants.{Leaves, Broken}
 use Rattle.decoding.proofs.Filled.{Filled, filled_put, filled_row}
 
 -- the padding of a record that begins at a bit
-padded : (bytes : List ℕ) (at kind : ℕ) → eqb (payload_of bytes (at + 32) kind).padding 0 ≡ (implies (eqb kind 1) (eqb (field bytes (at + 44) 20) 0) && implies (eqb kind 2) (eqb (field bytes (at + 39) 25) 0))
-unfolding payload_of implies
+padded : (bytes : List ℕ) (at kind : ℕ) → eqb (padding_in (payload_of bytes (at + 32) kind)) 0 ≡ (implies (eqb kind 1) (eqb (field bytes (at + 44) 20) 0) && implies (eqb kind 2) (eqb (field bytes (at + 39) 25) 0))
+unfolding padding_in kind_of payload_by payload_of implies
 padded bytes at zero = refl
 padded bytes at (suc zero) = rw (and-true, add_assoc)
 padded bytes at (suc (suc zero)) = rw add_assoc
@@ -77,9 +77,9 @@ module _ (bytes : List ℕ) (n : ℕ) (x : NodeRecord) (R : NodeRead bytes n x) 
   -- every number of it fits 16 bits
   pub payload_fits : payload_of_kind x < 65536
   unfolding payload_of_kind
-  payload_fits = go (eqb x.kind 1)
+  payload_fits = go (eqb (kind_put x) 1)
     where
-      go : (b : Bool) → cond b x.payload.set x.payload.moves < 65536
+      go : (b : Bool) → cond b (set_in x.payload) (moves_in x.payload) < 65536
       go true = omega (arith, R.set_fits)
       go false = omega (arith, R.moves_fit)
 
@@ -87,7 +87,7 @@ module _ (bytes : List ℕ) (n : ℕ) (x : NodeRecord) (R : NodeRead bytes n x) 
   pub nodes_more : {before l k : List ℕ} → NodesPut (game_of bytes) n before l → n < section_room → k ≡ node_put x n l → NodesPut (game_of bytes) (n + 1) before k
   unfolding node_put
   nodes_more F v e =
-      let kinds = filled_put x.kind F (omega arith) v refl R.kind in
+      let kinds = filled_put (kind_put x) F (omega arith) v refl R.kind in
       let parents = filled_put x.parent kinds (omega arith) v refl R.parent in
       let places = filled_put x.place parents (omega arith) v refl R.place in
       let weights = filled_put x.weight places (omega arith) v refl R.weight in
@@ -103,10 +103,10 @@ nodes_decoded F e few = record {
   payloads = rw e at (rows_held 4 F.rows (omega arith) few);
 }
 
--- two stores put the payoffs of a payload
-pub both_put : (x : Payload) (at : ℕ) (l : List ℤ) {m k : List ℤ} {y z : ℤ} → m ≡ set l (payoff_section one + at) y → k ≡ set m (payoff_section two + at) z → y ≡ x.payoff1 → z ≡ x.payoff2 → k ≡ payoffs_put x at l
+-- two stores put both payoffs
+pub both_put : (payoff1 payoff2 : ℤ) (at : ℕ) (l : List ℤ) {m k : List ℤ} {y z : ℤ} → m ≡ set l (payoff_section one + at) y → k ≡ set m (payoff_section two + at) z → y ≡ payoff1 → z ≡ payoff2 → k ≡ payoffs_put payoff1 payoff2 at l
 unfolding payoffs_put
-both_put x at l e f g h = rw (f, e, g, h)
+both_put payoff1 payoff2 at l e f g h = rw (f, e, g, h)
 
 -- the two sections of payoffs
 abbrev payoffs_by : Game → (t k : ℕ) → ℤ
@@ -133,24 +133,24 @@ module _ (bytes : List ℕ) (n : ℕ) (x : NodeRecord) (R : NodeRead bytes n x) 
   place_of : {at : ℕ} → n < (game_of bytes).nodes → (game_of bytes).kind n ≡ 0 → at ≡ length (leaves_below (game_of bytes) n) → (p : Player) → (game_of bytes).payoff p n ≡ (game_of bytes).payoff p (leaf_of (game_of bytes) at)
   place_of l k e p = rw (e, leaf_place (game_of bytes) n l k)
 
-  payoffs_leaf : {at : ℕ} {before l : List ℤ} → PayoffsPut (game_of bytes) n at before l → n < (game_of bytes).nodes → n < section_room → (game_of bytes).kind n ≡ 0 → PayoffsPut (game_of bytes) (n + 1) (at + 1) before (payoffs_put x.payload at l)
+  payoffs_leaf : {at : ℕ} {before l : List ℤ} → PayoffsPut (game_of bytes) n at before l → n < (game_of bytes).nodes → n < section_room → (game_of bytes).kind n ≡ 0 → PayoffsPut (game_of bytes) (n + 1) (at + 1) before (payoffs_put (payoff1_in x.payload) (payoff2_in x.payload) at l)
   unfolding payoffs_put
   payoffs_leaf {at} {before} {l} P v w k =
       let few : at < section_room = omega (arith, payoffs_few P) in
-      let first = rows_put x.payload.payoff1 P.rows (omega arith) few refl (node_payoff1 bytes n x R ∙ leaf_payoff (game_of bytes) one n k ∙ place_of v k P.counted one) in
+      let first = rows_put (payoff1_in x.payload) P.rows (omega arith) few refl (node_payoff1 bytes n x R ∙ leaf_payoff (game_of bytes) one n k ∙ place_of v k P.counted one) in
       record {
         counted = count_more (game_of bytes) n at (at + 1) P.counted (next_one (game_of bytes) n at k);
         long = simp length-set P.long;
-        rows = rows_next (rows_put x.payload.payoff2 first (omega arith) few refl (node_payoff2 bytes n x R ∙ leaf_payoff (game_of bytes) two n k ∙ place_of v k P.counted two));
+        rows = rows_next (rows_put (payoff2_in x.payload) first (omega arith) few refl (node_payoff2 bytes n x R ∙ leaf_payoff (game_of bytes) two n k ∙ place_of v k P.counted two));
       }
 
   pub payoffs_more : {at next : ℕ} {before l k : List ℤ} → PayoffsPut (game_of bytes) n at before l → n < (game_of bytes).nodes → n < section_room → next ≡ next_place x at → k ≡ leaf_put x at l → PayoffsPut (game_of bytes) (n + 1) next before k
   unfolding next_place leaf_put
-  payoffs_more {at} {next} {before} {l} {k} P v w e f = go (ℕ_discrete x.kind 0)
+  payoffs_more {at} {next} {before} {l} {k} P v w e f = go (ℕ_discrete (kind_put x) 0)
     where
-      go : Dec (x.kind ≡ 0) → PayoffsPut (game_of bytes) (n + 1) next before k
-      go (yes z) = rw (e, f, eq-eqb x.kind 0 z) (payoffs_leaf P v w (sym R.kind ∙ z))
-      go (no z) = rw (e, f, ne_eqb x.kind 0 z) (record {
+      go : Dec (kind_put x ≡ 0) → PayoffsPut (game_of bytes) (n + 1) next before k
+      go (yes z) = rw (e, f, eq-eqb (kind_put x) 0 z) (payoffs_leaf P v w (sym R.kind ∙ z))
+      go (no z) = rw (e, f, ne_eqb (kind_put x) 0 z) (record {
         counted = count_more (game_of bytes) n at at P.counted (next_none (game_of bytes) n at (λ y. z (R.kind ∙ y)));
         long = P.long;
         rows = P.rows;
@@ -171,8 +171,8 @@ payoffs_loaded {g} {n} {leaves} {l = l} P e few = both
     both two = rows_held 1 rows (omega arith) (omega (arith, all, payoffs_few P))
 
 -- the answer, by check 6
-pub nodes_refused : (test : Bool) (leaves : ℕ) → false ≡ test → Broken 6 ≡ nodes_answer test leaves
+pub nodes_refused : (test : Bool) (leaves : ℕ) → false ≡ test → Err NodeForm ≡ nodes_answer test leaves
 nodes_refused test leaves e = rw (← e)
 
-pub nodes_counted : (test : Bool) {leaves all : ℕ} → true ≡ test → leaves ≡ all → Leaves leaves ≡ nodes_answer test all
+pub nodes_counted : (test : Bool) {leaves all : ℕ} → true ≡ test → leaves ≡ all → Ok leaves ≡ nodes_answer test all
 nodes_counted test e f = rw (← e, f)

@@ -26,6 +26,9 @@ ghost use Rattle.model.specs.Calls.WriteGame.{write_game_of};
 ghost use Rattle.model.specs.Calls.WritePlan.{write_plan_of};
 ghost use Rattle.model.specs.Demand3.{Demand3MetIn};
 
+use columns::GameBuffers;
+use fitting::GameLists;
+
 // Checks a game file: its node count N, its set count H and its root chance weight D0.
 #[unsafe(no_mangle)]
 pub extern "C" fn desk_check_game(
@@ -59,8 +62,7 @@ pub extern "C" fn desk_game_fields(
 ) -> u64
     ensures { leaves result tt (Fields.lists (field_lists set_players.new set_moves.new kinds.new parents.new moves.new weights.new node_sets.new chance_moves.new payoffs1.new payoffs2.new)) ≡ exported none tt (Fields.game_fields_of game.now (Fields.lists (field_lists set_players.old set_moves.old kinds.old parents.old moves.old weights.old node_sets.old chance_moves.old payoffs1.old payoffs2.old))) }
 {
-    exported_game::game_fields(
-        game,
+    let mut buffers = GameBuffers {
         set_players,
         set_moves,
         kinds,
@@ -71,7 +73,8 @@ pub extern "C" fn desk_game_fields(
         chance_moves,
         payoffs1,
         payoffs2,
-    )
+    };
+    exported_game::game_fields(game, &mut buffers)
 }
 
 // D1, D2 and all weights of a plan, in file order: one for each move of each set.
@@ -231,7 +234,7 @@ pub extern "C" fn desk_write_game(
 ) -> u64
     ensures { leaves result size.new (out.new, tt) ≡ exported same size.old (write_game_of (game_fields_of root_weight set_players.now set_moves.now kinds.now parents.now moves.now weights.now node_sets.now chance_moves.now first_payoffs.now second_payoffs.now) out.old) }
 {
-    exported_writers::write_game(
+    let lists = GameLists {
         root_weight,
         set_players,
         set_moves,
@@ -241,9 +244,8 @@ pub extern "C" fn desk_write_game(
         weights,
         node_sets,
         chance_moves,
-        first_payoffs,
-        second_payoffs,
-        out,
-        size,
-    )
+        payoffs1: first_payoffs,
+        payoffs2: second_payoffs,
+    };
+    exported_writers::write_game(&lists, out, size)
 }

@@ -13,7 +13,13 @@ use Rattle.model.specs.Limits.{count_limit}
 use Rattle.model.specs.Game.{Game, Player, game_of, one, two, other, owns}
 use Rattle.model.specs.Sequences.{sequence_count}
 use Rattle.model.specs.Plan.{plan_pair_of}
+use Rattle.std.specs.Prelude.{Result, Ok, Err}
+use Rattle.model.specs.Exported.{same}
 use Rattle.model.specs.Checks.{game_refusal, pair_refusal}
+use Rattle.checks.specs.declared.Refusal.{Refusal}
+use Rattle.checks.specs.Answers.{refusal_number}
+use Rattle.checks.proofs.Chains.{number_some}
+use Rattle.checks.proofs.AnswerLaws.{gives, refuses, given_is, refused_is}
 use Rattle.model.specs.Rules.{GameRules}
 use Rattle.model.specs.Writing.{player_field}
 use Rattle.model.proofs.Checks.{game_rules}
@@ -22,21 +28,19 @@ use Rattle.records.proofs.Widths.{few_sets}
 use Rattle.loaded.specs.Sections.{player_section}
 use Rattle.loaded.specs.Counts.{counts_of}
 use Rattle.loaded.specs.Loaded.{Loaded}
+use Rattle.loaded.specs.declared.LoadedGame.{LoadedGame}
 use Rattle.loaded.specs.Weights.{plan_by_number, Weights}
 use Rattle.pair.specs.declared.PairHeader.{PairHeader}
-use Rattle.pair.specs.declared.PairAnswer.{PairAnswer}
-use Rattle.pair.specs.declared.PairAnswer.TheVariants.{Fits, Refused}
-use Rattle.pair.specs.Refusals.{pair_answer, pair_refusal_of, PairRead}
+use Rattle.pair.specs.Refusals.{pair_header, PairRead}
 use Rattle.plan.specs.Weights.{weight_by_number}
 use Rattle.plan.proofs.ByNumber.{small_number}
-use Rattle.pair.proofs.Pairs.{PairOpened, pair_opened, pair_refused_with, pair_holds}
+use Rattle.pair.proofs.Pairs.{PairOpened, pair_opened, opened_of, pair_holds}
 use Rattle.plan.proofs.StoredWeights.{stored_value, stored_best, stored_best_move, stored_fits}
 use Rattle.responses.specs.BestMoves.{own_best_move}
 use Rattle.form.specs.declared.Values.{Values}
 use Rattle.form.specs.Values.{values_of, Evaluated, PairWeights, PairAsked}
-use Rattle.evaluation.specs.declared.PairEvaluated.{PairEvaluated}
-use Rattle.evaluation.specs.declared.PairEvaluated.TheVariants as Pair
-use Rattle.evaluation.specs.Pairs.{pair_evaluated, evaluated_refusal, moves_after, PairLeft}
+use Rattle.evaluation.specs.declared.Evaluated as Pair
+use Rattle.evaluation.specs.Pairs.{pair_evaluated, moves_after, PairLeft}
 
 -- the arrays that are lent, as they are made
 abbrev pub zeros : List ℕ
@@ -57,19 +61,6 @@ module _ (game plan : List ℕ) (h : PairHeader) (o : PairOpened game plan h) wh
   unfolding counts_of
   sets_are = rw o.counts
 
--- what an answer says of reading alone
-abbrev answer_of : PairEvaluated → PairAnswer
-answer_of (Pair.Evaluated h v) = Fits h
-answer_of (Pair.Refused k) = Refused k
-
-answer_is : (game plan : List ℕ) (k : ℕ) → answer_of (pair_evaluated k game plan) ≡ pair_answer k game plan
-answer_is game plan zero = refl
-answer_is game plan (suc k) = refl
-
-number_is : (r : PairEvaluated) → evaluated_refusal r ≡ pair_refusal_of (answer_of r)
-number_is (Pair.Evaluated h v) = refl
-number_is (Pair.Refused k) = refl
-
 module _ (game plan : List ℕ) where
   -- A pair that was read and fits: the game is loaded, and both arrays hold its weights by number.
   record PairHeld (h : PairHeader) (numbers : List ℕ) (payoffs : List ℤ) (x y : List ℕ) : Type 0 where
@@ -89,7 +80,7 @@ module _ (game plan : List ℕ) where
       let g = game_of game in
       m ∙ (λ i. over (λ k. cond (owns g p k) (stored_best_move g rules plan p held k i) 0) g.sets before)
 
-  module _ {a : PairAnswer} {h : PairHeader} {numbers : List ℕ} {payoffs : List ℤ} {x y : List ℕ} (e : PairRead game plan a numbers payoffs zeros x zeros y) (f : a ≡ Fits h) where
+  module _ {a : Result PairHeader Refusal} {h : PairHeader} {numbers : List ℕ} {payoffs : List ℤ} {x y : List ℕ} (e : PairRead game plan a numbers payoffs zeros x zeros y) (f : a ≡ Ok h) where
     pair_held : PairHeld h numbers payoffs x y
     pair_held =
         let o = pair_opened game plan e.answer f in
@@ -106,11 +97,11 @@ module _ (game plan : List ℕ) where
         record { weights1 = held_weights one r.held1; weights2 = held_weights two r.held2; fit = stored_fits game plan r.opened.none r.held1 r.held2 }
 
     -- what the evaluation asks
-    pub evaluate_asks : PairAsked h.counts numbers payoffs x y
-    evaluate_asks = let r = pair_held in record { game = game_of game; loaded = rw r.opened.counts r.loaded; weights = pair_weights_lem }
+    pub evaluate_asks : {l : LoadedGame} → l.counts ≡ h.counts → l.numbers.now ≡ numbers → l.payoffs.now ≡ payoffs → PairAsked l x y
+    evaluate_asks c n p = let r = pair_held in record { game = game_of game; loaded = rw (c, n, p, r.opened.counts) r.loaded; weights = pair_weights_lem }
 
     -- a pair that was read and fits
-    pub pair_evaluated_lem : (before1 before2 : List ℕ) {v : Values} {moves1 moves2 : List ℕ} → ((g : Game) → Loaded g h.counts numbers payoffs → PairWeights g x y → Evaluated g x y before1 before2 moves1 moves2 v) → PairLeft game plan before1 before2 (Pair.Evaluated h v) numbers payoffs moves1 moves2
+    pub pair_evaluated_lem : (before1 before2 : List ℕ) {v : Values} {moves1 moves2 : List ℕ} → ((g : Game) → Loaded g h.counts numbers payoffs → PairWeights g x y → Evaluated g x y before1 before2 moves1 moves2 v) → PairLeft game plan before1 before2 (Ok (record { pair = h; values = v })) numbers payoffs moves1 moves2
     unfolding values_of
     pair_evaluated_lem before1 before2 {v} given =
         let g = game_of game in
@@ -119,23 +110,23 @@ module _ (game plan : List ℕ) where
         let rules = game_rules game o.game_none in
         let t = given g (rw o.counts r.loaded) pair_weights_lem in
         let values : v ≡ values_of g (plan_pair_of g plan) = t.0 ∙ rw (stored_value g rules plan r.held1 r.held2 one, stored_value g rules plan r.held1 r.held2 two, stored_best g rules plan r.held1 r.held2 one, stored_best g rules plan r.held1 r.held2 two) in
-        let read : h ≡ record { counts = counts_of g; denominators = denominators_of plan } = λ i. record { counts = o.counts i; denominators = o.denominators i } in
+        let read : h ≡ pair_header game plan = λ i. record { counts = o.counts i; denominators = o.denominators i } in
         record {
-          answer = rw o.none (λ i. Pair.Evaluated (read i) (values i));
+          answer = given_is same (pair_refusal game plan) (pair_evaluated game plan) (record { pair = h; values = v }) o.none (λ i. record { pair = read i; values = values i });
           loaded = e.loaded;
           first = rw o.none (best_read rules one before1 r.held2 t.1);
           second = rw o.none (best_read rules two before2 r.held1 t.2);
         }
 
   -- one that is refused
-  pub pair_refused : {before1 before2 numbers : List ℕ} {payoffs : List ℤ} {r : ℕ} → r ≡ pair_refusal game plan → ¬ (r ≡ 0) → (game_refusal game ≡ 0 → Loaded (game_of game) (counts_of (game_of game)) numbers payoffs) → PairLeft game plan before1 before2 (Pair.Refused r) numbers payoffs before1 before2
-  pair_refused {before1} {before2} {r = r} e n loaded =
-      let s = go r n in
-      record { answer = rw (← e) s.0; loaded = loaded; first = rw (← e) s.1; second = rw (← e) s.2 }
+  pub pair_refused : {before1 before2 numbers : List ℕ} {payoffs : List ℤ} {d : Refusal} → refusal_number d ≡ pair_refusal game plan → (game_refusal game ≡ 0 → Loaded (game_of game) (counts_of (game_of game)) numbers payoffs) → PairLeft game plan before1 before2 (Err d) numbers payoffs before1 before2
+  pair_refused {before1} {before2} {d = d} e loaded =
+      let s = go (refusal_number d) (number_some d) in
+      record { answer = refused_is same (pair_refusal game plan) (pair_evaluated game plan) d (sym e); loaded = loaded; first = rw (← e) s.0; second = rw (← e) s.1 }
     where
-      go : (k : ℕ) → ¬ (k ≡ 0) → (Pair.Refused k ≡ pair_evaluated k game plan) × (before1 ≡ moves_after k game plan one before1) × (before2 ≡ moves_after k game plan two before2)
+      go : (k : ℕ) → ¬ (k ≡ 0) → (before1 ≡ moves_after k game plan one before1) × (before2 ≡ moves_after k game plan two before2)
       go zero n = absurd (n refl)
-      go (suc k) n = (refl, refl, refl)
+      go (suc k) n = (refl, refl)
 
   -- What is known of a pair that was evaluated: the values are those of the files, and so are, by set, each player's best moves against the other's plan;
   -- the players of the sets stand in the numbers.
@@ -146,16 +137,16 @@ module _ (game plan : List ℕ) where
     pub best1 : Holds (own_best_move (game_of game) one (plan_pair_of (game_of game) plan two)) (game_of game).sets moves1
     pub best2 : Holds (own_best_move (game_of game) two (plan_pair_of (game_of game) plan one)) (game_of game).sets moves2
 
-  module _ {r : PairEvaluated} {numbers : List ℕ} {payoffs : List ℤ} {moves1 moves2 : List ℕ} (e : PairLeft game plan zeros zeros r numbers payoffs moves1 moves2) where
-    pub evaluation_opened : {h : PairHeader} {v : Values} → r ≡ Pair.Evaluated h v → EvaluationOpened h v numbers moves1 moves2
-    evaluation_opened {h} {v} f =
-        let o = pair_opened game plan (ap answer_of e.answer ∙ answer_is game plan (pair_refusal game plan)) (ap answer_of f) in
-        let given : Pair.Evaluated h v ≡ pair_evaluated 0 game plan = rw o.none at (sym f ∙ e.answer) in
-        let first : moves1 ≡ moves_after 0 game plan one zeros = rw o.none at e.first in
-        let second : moves2 ≡ moves_after 0 game plan two zeros = rw o.none at e.second in
+  module _ {r : Result Pair.Evaluated Refusal} {numbers : List ℕ} {payoffs : List ℤ} {moves1 moves2 : List ℕ} (e : PairLeft game plan zeros zeros r numbers payoffs moves1 moves2) where
+    pub evaluation_opened : {x : Pair.Evaluated} → r ≡ Ok x → EvaluationOpened x.pair x.values numbers moves1 moves2
+    evaluation_opened {x} f =
+        let (none, is) = gives same (pair_refusal game plan) (pair_evaluated game plan) e.answer f in
+        let o = opened_of game plan none (ap (λ (x : Pair.Evaluated). x.pair) is) in
+        let first : moves1 ≡ moves_after 0 game plan one zeros = rw none at e.first in
+        let second : moves2 ≡ moves_after 0 game plan two zeros = rw none at e.second in
         let room : (game_of game).sets ≤ length zeros = omega (arith, few_sets game, zeros_long) in
-        record { opened = o; values = cc; players = (e.loaded o.game_none).in_numbers.decoded.sets_decoded.players; best1 = filled zeros first room; best2 = filled zeros second room }
+        record { opened = o; values = ap (λ (x : Pair.Evaluated). x.values) is; players = (e.loaded o.game_none).in_numbers.decoded.sets_decoded.players; best1 = filled zeros first room; best2 = filled zeros second room }
 
     -- the number of its refusal
-    pub evaluation_refused_with : {k n : ℕ} → r ≡ Pair.Refused k → n ≡ evaluated_refusal r → (n ≡ pair_refusal game plan) × ¬ (n ≡ 0)
-    evaluation_refused_with f m = pair_refused_with game plan (ap answer_of e.answer ∙ answer_is game plan (pair_refusal game plan)) (ap answer_of f) (m ∙ number_is r)
+    pub evaluation_refused_with : {d : Refusal} → r ≡ Err d → (refusal_number d ≡ pair_refusal game plan) × ¬ (refusal_number d ≡ 0)
+    evaluation_refused_with {d} f = (sym (refuses same (pair_refusal game plan) (pair_evaluated game plan) e.answer f), number_some d)

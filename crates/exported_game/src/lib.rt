@@ -3,59 +3,33 @@
 #![tactic(auto)]
 
 ghost use Rattle.std.specs.Prelude.{◌≡◌};
-ghost use Rattle.model.specs.Writing.{field_lists};
 ghost use Rattle.model.specs.Exported.{none, same, exported, leaves};
 ghost use Rattle.model.specs.Calls.CheckGame.{counts, check_game_of};
 ghost use Rattle.model.specs.Calls.GameFields as Fields;
+ghost use Rattle.columns.specs.Buffers.{held, SameBuffers};
+
+use columns::GameBuffers;
 
 // N, H and D0 go to the lent numbers.
 pub fn check_game(game: &[u8], nodes: &mut u64, sets: &mut u64, root_weight: &mut u64) -> u64
     ensures { leaves result (counts nodes.new sets.new root_weight.new) tt ≡ exported same (counts nodes.old sets.old root_weight.old) (check_game_of game.now) }
 {
-    let answer = lookups::check_game(game);
-    match answer {
-        lookups::GameAnswer::Accepted {
-            nodes: n,
-            sets: h,
-            root_weight: d,
-        } => {
-            *nodes = n;
-            *sets = h;
-            *root_weight = d;
+    match lookups::check_game(game) {
+        Ok(counts) => {
+            *nodes = counts.nodes;
+            *sets = counts.sets;
+            *root_weight = counts.root_weight;
             0
         }
-        lookups::GameAnswer::Refused(number) => number,
+        Err(refusal) => refusal.number(),
     }
 }
 
 // Each field goes to its buffer.
-pub fn game_fields(
-    game: &[u8],
-    set_players: &mut [u64],
-    set_moves: &mut [u64],
-    kinds: &mut [u64],
-    parents: &mut [u64],
-    moves: &mut [u64],
-    weights: &mut [u64],
-    node_sets: &mut [u64],
-    chance_moves: &mut [u64],
-    payoffs1: &mut [i64],
-    payoffs2: &mut [i64],
-) -> u64
-    ensures { leaves result tt (Fields.lists (field_lists set_players.new set_moves.new kinds.new parents.new moves.new weights.new node_sets.new chance_moves.new payoffs1.new payoffs2.new)) ≡ exported none tt (Fields.game_fields_of game.now (Fields.lists (field_lists set_players.old set_moves.old kinds.old parents.old moves.old weights.old node_sets.old chance_moves.old payoffs1.old payoffs2.old))) }
+pub fn game_fields(game: &[u8], buffers: &mut GameBuffers<'_>) -> u64
+    ensures call { leaves result tt (Fields.lists (held buffers.new)) ≡ exported none tt (Fields.game_fields_of game.now (Fields.lists (held buffers.old))) }
+    ensures same { SameBuffers buffers.old buffers.new }
 {
-    let answer = fields::game_fields(
-        game,
-        set_players,
-        set_moves,
-        kinds,
-        parents,
-        moves,
-        weights,
-        node_sets,
-        chance_moves,
-        payoffs1,
-        payoffs2,
-    );
-    fields::refusal(answer)
+    let answer = fields::game_fields(game, buffers);
+    checks::number(answer)
 }

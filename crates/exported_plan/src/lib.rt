@@ -11,17 +11,12 @@ ghost use Rattle.model.specs.Calls.PlanFields.{plan_fields_of, denominators_in};
 pub fn plan_fields(game: &[u8], plan: &[u8], d1: &mut u64, d2: &mut u64, weights: &mut [u64]) -> u64
     ensures { leaves result (denominators d1.new d2.new) (weights.new, tt) ≡ exported denominators_in (denominators d1.old d2.old) (plan_fields_of game.now plan.now weights.old) }
 {
-    let answer = plans::plan_fields(game, plan, weights);
-    match answer {
-        plans::WeightsAnswer::Given {
-            d1: given1,
-            d2: given2,
-            count: _,
-        } => {
-            *d1 = given1;
-            *d2 = given2;
+    match plans::plan_fields(game, plan, weights) {
+        Ok(counts) => {
+            *d1 = counts.d1;
+            *d2 = counts.d2;
             0
         }
-        plans::WeightsAnswer::Refused(number) => number,
+        Err(refusal) => refusal.number(),
     }
 }

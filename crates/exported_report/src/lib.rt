@@ -11,13 +11,12 @@ ghost use Rattle.model.specs.Calls.RefusalLine.{refusal_line_of};
 pub fn report(game: &[u8], plan: &[u8], out: &mut [u8], size: &mut u64) -> u64
     ensures { leaves result size.new (out.new, tt) ≡ exported same size.old (report_call game.now plan.now out.old) }
 {
-    let answer = report::reports::report(game, plan, out);
-    match answer {
-        checks::WriteAnswer::Written(text) => {
+    match report::reports::report(game, plan, out) {
+        Ok(text) => {
             *size = text as u64;
             0
         }
-        checks::WriteAnswer::Refused(number) => number,
+        Err(refusal) => refusal.number(),
     }
 }
 
@@ -25,12 +24,11 @@ pub fn report(game: &[u8], plan: &[u8], out: &mut [u8], size: &mut u64) -> u64
 pub fn refusal_line(number: u64, out: &mut [u8], size: &mut u64) -> u64
     ensures { leaves result size.new (out.new, tt) ≡ exported same size.old (refusal_line_of number out.old) }
 {
-    let answer = report::reports::refusal_line(number, out);
-    match answer {
-        checks::WriteAnswer::Written(line) => {
+    match report::reports::refusal_line(number, out) {
+        Ok(line) => {
             *size = line as u64;
             0
         }
-        checks::WriteAnswer::Refused(refusal) => refusal,
+        Err(own) => own.number(),
     }
 }

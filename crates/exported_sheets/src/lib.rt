@@ -14,13 +14,12 @@ pub fn plan_from_sheet(game: &[u8], sheet: &[u8], out: &mut [u8], size: &mut u64
     ensures equation { leaves result size.new (out.new, tt) ≡ exported same size.old (plan_from_sheet_of game.now sheet.now out.old) }
     ensures promise { MakesIn weight_width largest_denominator (sheet_files game.now sheet.now) out.old (leaves result size.new (out.new, tt)) }
 {
-    let answer = from_sheet::plan_from_sheet(game, sheet, out);
-    match answer {
-        checks::WriteAnswer::Written(written) => {
+    match from_sheet::plan_from_sheet(game, sheet, out) {
+        Ok(written) => {
             *size = written as u64;
             0
         }
-        checks::WriteAnswer::Refused(number) => number,
+        Err(refusal) => refusal.number(),
     }
 }
 
@@ -29,12 +28,11 @@ pub fn sheet_from_plan(game: &[u8], plan: &[u8], out: &mut [u8], size: &mut u64)
     ensures equation { leaves result size.new (out.new, tt) ≡ exported same size.old (sheet_from_plan_of game.now plan.now out.old) }
     ensures promise { ReturnsIn weight_width largest_denominator (files game.now plan.now) out.old (leaves result size.new (out.new, tt)) }
 {
-    let answer = to_sheet::sheet_from_plan(game, plan, out);
-    match answer {
-        checks::WriteAnswer::Written(bytes) => {
+    match to_sheet::sheet_from_plan(game, plan, out) {
+        Ok(bytes) => {
             *size = bytes as u64;
             0
         }
-        checks::WriteAnswer::Refused(number) => number,
+        Err(refusal) => refusal.number(),
     }
 }

@@ -17,12 +17,11 @@ pub fn payoff_table(
 ) -> u64
     ensures { leaves result rows.new (sequence1.new, (sequence2.new, (sum1.new, (sum2.new, tt)))) ≡ exported same rows.old (payoff_columns game.now (sequence1.old, (sequence2.old, (sum1.old, (sum2.old, tt))))) }
 {
-    let answer = table::payoff_table(game, sequence1, sequence2, sum1, sum2);
-    match answer {
-        rows::TableAnswer::Given { rows: count } => {
+    match table::payoff_table(game, sequence1, sequence2, sum1, sum2) {
+        Ok(count) => {
             *rows = count;
             0
         }
-        rows::TableAnswer::Refused(number) => number,
+        Err(refusal) => refusal.number(),
     }
 }

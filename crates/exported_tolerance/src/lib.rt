@@ -11,16 +11,11 @@ pub fn tolerates(game: &[u8], plan: &[u8], tolerance: u16, passes: &mut u64) -> 
     ensures equation { leaves result passes.new tt ≡ exported passes_number passes.old (tolerates tolerance game.now plan.now) }
     ensures promise { ToleranceMet tolerance game.now plan.now (answer_in (leaves result passes.new tt)) }
 {
-    let answer = tolerance::tolerates(game, plan, tolerance);
-    match answer {
-        tolerance::ToleranceAnswer::Passes => {
-            *passes = 1;
+    match tolerance::tolerates(game, plan, tolerance) {
+        Ok(within) => {
+            *passes = u64::from(within);
             0
         }
-        tolerance::ToleranceAnswer::Fails => {
-            *passes = 0;
-            0
-        }
-        tolerance::ToleranceAnswer::Refused(number) => number,
+        Err(refusal) => refusal.number(),
     }
 }

@@ -10,13 +10,16 @@ use Rattle.model.specs.Calls.Verdict.{Numbers, numbers_of, verdict_call, verdict
 use Rattle.model.specs.Demand3.{Demand3MetIn}
 use Rattle.model.proofs.Exported.{exports}
 use Rattle.model.proofs.Calls.Verdict.{demand3_numbers}
-use Rattle.verdict.specs.declared.VerdictAnswer.{VerdictAnswer}
-use Rattle.verdict.specs.Answers.{verdict_answered}
+use Rattle.std.specs.Prelude.{Result}
+use Rattle.checks.specs.declared.Refusal.{Refusal}
+use Rattle.checks.specs.Answers.{answered}
+use Rattle.verdict.specs.declared.PairVerdict.{PairVerdict}
+use Rattle.verdict.specs.Answers.{verdict_seen}
 
 -- the verdict, and demand 3 for what is exported
-pub exports_verdict : (game plan moves : List ℕ) (before : Numbers) {v w : VerdictAnswer} {r : ℕ} {n : Numbers} {after : List ℕ} → outcome (verdict_answered v) (after, tt) ≡ verdict_call game plan moves → v ≡ w → r ≡ refusal_of (verdict_answered w) → n ≡ numbers_after numbers_of before (verdict_answered w) → (leaves r n (after, tt) ≡ verdict_numbers game plan before moves) × Demand3MetIn game plan moves (leaves r n (after, tt))
+pub exports_verdict : (game plan moves : List ℕ) (before : Numbers) {v w : Result PairVerdict Refusal} {r : ℕ} {n : Numbers} {after : List ℕ} → outcome (answered verdict_seen v) (after, tt) ≡ verdict_call game plan moves → v ≡ w → r ≡ refusal_of (answered verdict_seen w) → n ≡ numbers_after numbers_of before (answered verdict_seen w) → (leaves r n (after, tt) ≡ verdict_numbers game plan before moves) × Demand3MetIn game plan moves (leaves r n (after, tt))
 exports_verdict game plan moves before e f is lent =
-    let all = exports verdict_answered numbers_of before e f is lent in
+    let all = exports (answered verdict_seen) numbers_of before e f is lent in
     (all, subst (Demand3MetIn game plan moves) (sym all) (demand3_numbers game plan before moves))
 
 -- values and best values that were read back from an i64

@@ -22,27 +22,18 @@ pub fn values(
 ) -> u64
     ensures { leaves result (pair_values value1.new value2.new best1.new best2.new d0.new d1.new d2.new) tt ≡ exported same (pair_values value1.old value2.old best1.old best2.old d0.old d1.old d2.old) (values_call game.now plan.now) }
 {
-    let answer = verdict::values::values(game, plan);
-    match answer {
-        verdict::ValuesAnswer::Given {
-            value1: v1,
-            value2: v2,
-            best1: b1,
-            best2: b2,
-            root_weight: w0,
-            d1: w1,
-            d2: w2,
-        } => {
-            *value1 = v1;
-            *value2 = v2;
-            *best1 = b1;
-            *best2 = b2;
-            *d0 = w0;
-            *d1 = w1;
-            *d2 = w2;
+    match verdict::values::values(game, plan) {
+        Ok(values) => {
+            *value1 = values.value1;
+            *value2 = values.value2;
+            *best1 = values.best1;
+            *best2 = values.best2;
+            *d0 = values.root_weight;
+            *d1 = values.d1;
+            *d2 = values.d2;
             0
         }
-        verdict::ValuesAnswer::Refused(number) => number,
+        Err(refusal) => refusal.number(),
     }
 }
 
@@ -60,27 +51,20 @@ pub fn verdict(
     ensures equation { leaves result (numbers player.new gain.new base.new count.new) (moves.new, tt) ≡ verdict_numbers game.now plan.now (numbers player.old gain.old base.old count.old) moves.old }
     ensures promise { Demand3MetIn game.now plan.now moves.old (leaves result (numbers player.new gain.new base.new count.new) (moves.new, tt)) }
 {
-    let answer = verdict::verdicts::verdict(game, plan, moves);
-    match answer {
-        verdict::VerdictAnswer::Accepted { base: product } => {
-            *player = 0;
-            *gain = 0;
-            *base = product;
-            *count = 0;
+    match verdict::verdicts::verdict(game, plan, moves) {
+        Ok(verdict) => {
+            *base = verdict.base;
+            let Some(shown) = verdict.deviation else {
+                *player = 0;
+                *gain = 0;
+                *count = 0;
+                return 0;
+            };
+            *player = shown.player.number();
+            *gain = shown.gain;
+            *count = shown.sets;
             0
         }
-        verdict::VerdictAnswer::Deviation {
-            player_number: shown,
-            gain: stated,
-            base: product,
-            sets,
-        } => {
-            *player = shown;
-            *gain = stated;
-            *base = product;
-            *count = sets;
-            0
-        }
-        verdict::VerdictAnswer::Refused(number) => number,
+        Err(refusal) => refusal.number(),
     }
 }

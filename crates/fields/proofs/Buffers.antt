@@ -1,43 +1,53 @@
 -- The call that gives all fields: its refusals, and its ten buffers afterwards.
 use Prim.Native.Nat.{ℕ}
-use mathlib.Core.Path.{◌≡◌, sym, ap, ◌∙◌}
-use mathlib.Core.Bool.{Bool}
+use mathlib.Core.Path.{◌≡◌, refl, sym, ap, ◌∙◌}
+use mathlib.Core.Bool.{Bool, true, false, ◌&&◌}
 use mathlib.Core.List.{List, [], ◌∷◌}
 use Rattle.algebra.proofs.Lists.{length_list_to}
 use Rattle.model.specs.Game.{game_of, one, two}
 use Rattle.model.specs.Call.{Answer, given, refused, lengths, long_enough, after_all, outcome}
-use Rattle.model.specs.Writing.{GameFields, fields_of, payoff_field, player_field, set_field, moves_field, field_lists}
+use Rattle.model.specs.Writing.{GameFields, fields_of, payoff_field, player_field, set_field, moves_field}
 use Rattle.model.specs.Calls.CheckGame.{Counts}
 use Rattle.model.specs.Calls.GameFields.{shape, lists, call, game_fields_of}
 use Rattle.model.proofs.Checks.{game_named}
-use Rattle.checks.specs.declared.Checked.{Checked}
-use Rattle.checks.specs.declared.Checked.TheVariants.{Fine, Broken}
-use Rattle.checks.specs.Checked.{checked_of, number_of}
-use Rattle.checks.proofs.Chains.{fine_holds, call_refuses, call_short, call_gives}
+use lib.Dec.{leb}
+use lib.ListN.{length}
+use Rattle.std.specs.Prelude.{Ok, Err}
+use Rattle.checks.specs.declared.Refusal.{Refusal}
+use Rattle.checks.specs.declared.Refusal.TheVariants.{Room}
+use Rattle.checks.specs.Answers.{refusal_number, checked_of}
+use Rattle.checks.proofs.Chains.{Checked, fine_holds, call_refuses, call_short, call_gives}
 use Rattle.checks.proofs.Files.{game_refuses, game_fine}
 use Rattle.checks.proofs.Rooms.{split, over_after}
 use Rattle.records.specs.declared.game_file.Header.{Header}
 use Rattle.columns.specs.Columns.{FieldsFit, filled}
+use Rattle.fields.specs.Rooms.{roomy}
 use Rattle.records.proofs.Headers.{header_nodes, header_sets, header_weight}
 use Rattle.game.proofs.Refusals.{Opened, RefusedWith}
+
+-- two tests and then others, joined either way
+joined : (x y z : Bool) → ((x && (y && true)) && z) ≡ (x && (y && z))
+joined true true z = refl
+joined true false z = refl
+joined false y z = refl
 
 module _ (bytes : List ℕ) (b : GameFields) where
   -- an answer and buffers that are the call's
   abbrev pub Result : Answer Counts → GameFields → Type 0
   Result r a = outcome r (lists a) ≡ game_fields_of bytes (lists b)
 
-  -- the buffers as they were
-  abbrev pub kept : GameFields
-  kept = field_lists b.set_players b.set_moves b.kinds b.parents b.moves b.weights b.node_sets b.chance_moves b.payoffs1 b.payoffs2
-
   -- the game's own refusal
-  pub file_refused : {r : ℕ} → RefusedWith bytes r → Result (refused r) kept
+  pub file_refused : {r : ℕ} → RefusedWith bytes r → Result (refused r) b
   unfolding call
   file_refused s = sym (call_refuses call game_named bytes (lists b) (game_refuses s.number s.some))
 
   -- whether each buffer is long enough for h sets and n nodes
   abbrev pub enough : (h n : ℕ) → Bool
   enough h n = long_enough (h ∷ h ∷ n ∷ n ∷ n ∷ n ∷ n ∷ n ∷ n ∷ n ∷ []) (lengths shape (lists b))
+
+  -- the same, as it is tested
+  tested : (h n : ℕ) {r : Checked} → r ≡ checked_of Room (roomy h n b) → r ≡ checked_of Room (enough h n)
+  tested h n e = e ∙ ap (checked_of Room) (joined (leb h (length b.set_players)) (leb h (length b.set_moves)) _)
 
   -- 18 as the call has it
   measured : (x : Header) → Opened bytes x → enough x.sets x.nodes ≡ long_enough (lengths shape (lists (fields_of (game_of bytes)))) (lengths shape (lists b))
@@ -60,14 +70,14 @@ module _ (bytes : List ℕ) (b : GameFields) where
       )
 
   -- a buffer too short
-  pub no_room : (x : Header) → Opened bytes x → {r : Checked} {n m : ℕ} → r ≡ checked_of 18 (enough x.sets x.nodes) → r ≡ Broken n → m ≡ number_of r → Result (refused m) kept
+  pub no_room : (x : Header) → Opened bytes x → {r : Checked} {d : Refusal} → r ≡ checked_of Room (roomy x.sets x.nodes b) → r ≡ Err d → Result (refused (refusal_number d)) b
   unfolding call
-  no_room x o e f g = sym (call_short call game_named bytes (lists b) (game_fine bytes o.none) (e ∙ ap (checked_of 18) (measured x o)) f g)
+  no_room x o e f = sym (call_short call game_named bytes (lists b) (game_fine bytes o.none) (tested x.sets x.nodes e ∙ ap (checked_of Room) (measured x o)) f)
 
   -- every buffer has its room
-  pub has_room : (h n : ℕ) {r : Checked} → r ≡ checked_of 18 (enough h n) → r ≡ Fine → FieldsFit h n b
+  pub has_room : (h n : ℕ) {r : Checked} {u : Unit {0}} → r ≡ checked_of Room (roomy h n b) → r ≡ Ok u → FieldsFit h n b
   has_room h n e f =
-      let t0 = split _ _ (fine_holds 18 (enough h n) e f) in
+      let t0 = split _ _ (fine_holds Room (enough h n) (tested h n e) f) in
       let t1 = split _ _ t0.1 in
       let t2 = split _ _ t1.1 in
       let t3 = split _ _ t2.1 in
@@ -109,8 +119,8 @@ module _ (bytes : List ℕ) (b : GameFields) where
       )
 
   -- all fields given
-  pub all_given : (x : Header) {a : GameFields} → Opened bytes x → {r : Checked} → r ≡ checked_of 18 (enough x.sets x.nodes) → r ≡ Fine → a ≡ filled (game_of bytes) b → Result (given (record { nodes = x.nodes; sets = x.sets; root_weight = x.root_weight })) a
+  pub all_given : (x : Header) {a : GameFields} → Opened bytes x → {r : Checked} {u : Unit {0}} → r ≡ checked_of Room (roomy x.sets x.nodes b) → r ≡ Ok u → a ≡ filled (game_of bytes) b → Result (given (record { nodes = x.nodes; sets = x.sets; root_weight = x.root_weight })) a
   unfolding call
   all_given x o e f g =
       rw (g, filled_is, header_nodes x bytes o.header, header_sets x bytes o.header, header_weight x bytes o.header)
-      (sym (call_gives call game_named bytes (lists b) (game_fine bytes o.none) (sym (measured x o) ∙ fine_holds 18 (enough x.sets x.nodes) e f)))
+      (sym (call_gives call game_named bytes (lists b) (game_fine bytes o.none) (sym (measured x o) ∙ fine_holds Room (enough x.sets x.nodes) (tested x.sets x.nodes e) f)))

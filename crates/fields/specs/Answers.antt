@@ -1,10 +1,7 @@
--- What each answer of the call is in the model.
-use Rattle.model.specs.Call.{Answer, given, refused}
+-- What the call gives, in the model's terms.
 use Rattle.model.specs.Calls.CheckGame.{Counts}
-use Rattle.fields.specs.declared.FieldsAnswer.{FieldsAnswer}
-use Rattle.fields.specs.declared.FieldsAnswer.TheVariants.{Given, Refused}
+use Rattle.game.specs.declared.GameCounts.{GameCounts}
 
--- N, H and D0, or the refusal's number
-abbrev pub fields_answered : FieldsAnswer → Answer Counts
-fields_answered (Given nodes sets root_weight) = given (record { nodes = nodes; sets = sets; root_weight = root_weight })
-fields_answered (Refused k) = refused k
+-- N, H and D0
+abbrev pub fields_seen : GameCounts → Counts
+fields_seen c = record { nodes = c.nodes; sets = c.sets; root_weight = c.root_weight }

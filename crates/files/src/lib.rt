@@ -8,59 +8,45 @@ ghost use Rattle.files.specs.Parts.{IsPrefixLen, Taken, Within, next_after_of, a
 
 use std::fs::File;
 use std::io::{ErrorKind, Read, Write};
+use std::ops::ControlFlow;
 use std::rt::Files;
 use std::str::from_utf8;
 
 // How often a read or a write that a signal interrupts is made, at most.
 const TRIES: usize = 1000;
 
-// What a read or a write moves: so many bytes, none at the file's end.
-#[derive(Clone, Copy)]
-enum Part {
-    Bytes(usize),
-    Failed,
-}
-
-// What follows a read or a write: another one, with so many bytes before it, or the end, with so many in all.
-#[derive(Clone, Copy)]
-enum Next {
-    More(usize),
-    End(usize),
-}
-
-// One read into the buffer.
-fn read_part<R: Read>(file: &mut R, buffer: &mut [u8]) -> Part
+// One read into the buffer: how many bytes it moves, none of them at the file's end; `None` where it fails.
+fn read_part<R: Read>(file: &mut R, buffer: &mut [u8]) -> Option<usize>
     ensures { Within (length buffer.new) result }
 {
     for _ in 0..TRIES {
         match file.read(buffer) {
-            Ok(count) => return Part::Bytes(count),
+            Ok(count) => return Some(count),
             Err(error) => {
                 if error.kind() != ErrorKind::Interrupted {
-                    return Part::Failed;
+                    return None;
                 }
             }
         }
     }
-    Part::Failed
+    None
 }
 
-// What follows a read or a write that had `done` bytes before it. Where it fails, `kept` count in all.
-fn next_after(done: usize, kept: usize, part: Part) -> Next
+// What follows a read or a write that had `done` bytes before it: another one, with so many bytes before it, or the end, with so many in all.
+// Where it fails, `kept` count in all.
+fn next_after(done: usize, kept: usize, part: Option<usize>) -> ControlFlow<usize, usize>
     requires { Within (2 ^ 64 - 1 - done) part }
     ensures { result ≡ next_after_of done kept part }
 {
-    let Part::Bytes(more) = part else {
-        return Next::End(kept);
-    };
-    if more == 0 {
-        return Next::End(done);
+    match part {
+        None => ControlFlow::Break(kept),
+        Some(0) => ControlFlow::Break(done),
+        Some(more) => ControlFlow::Continue(done + more),
     }
-    Next::More(done + more)
 }
 
 // What follows a read that had `done` bytes before it.
-fn after_read(done: usize, part: Part) -> Next
+fn after_read(done: usize, part: Option<usize>) -> ControlFlow<usize, usize>
     requires { Within (2 ^ 64 - 1 - done) part }
     ensures { result ≡ after_read_of done part }
 {
@@ -68,16 +54,16 @@ fn after_read(done: usize, part: Part) -> Next
 }
 
 // Reads to the file's end, or until the buffer is full, and gives how many bytes; none where a read fails.
+// A turn adds as many bytes as the system gives, so no `for` counts the turns, here and in `write_whole`.
 fn read_whole<R: Read>(file: &mut R, buffer: &mut [u8]) -> usize
     ensures { IsPrefixLen result buffer.new }
 {
     let mut done = 0;
     while done < buffer.len() {
         let part = read_part(file, &mut buffer[done..]);
-        let next = after_read(done, part);
-        match next {
-            Next::More(count) => done = count,
-            Next::End(count) => return count,
+        match after_read(done, part) {
+            ControlFlow::Continue(count) => done = count,
+            ControlFlow::Break(count) => return count,
         }
     }
     done
@@ -97,26 +83,27 @@ pub fn load<R: Files>(rt: &R, name: &[u8], buffer: &mut [u8]) -> usize
     read_whole(&mut file, buffer)
 }
 
-// One write of the bytes.
-fn write_part<W: Write>(to: &mut W, bytes: &[u8]) -> Part
+// One write of the bytes: how many it moves; `None` where it fails.
+// One loop for this and `read_part` would take a closure that changes what it captures, and a clause could not say what that becomes.
+fn write_part<W: Write>(to: &mut W, bytes: &[u8]) -> Option<usize>
     ensures within { Within (length bytes.now) result }
     ensures taken { Taken (W.contents to.old) (W.contents to.new) bytes.now result }
 {
     for _ in 0..TRIES {
         match to.write(bytes) {
-            Ok(count) => return Part::Bytes(count),
+            Ok(count) => return Some(count),
             Err(error) => {
                 if error.kind() != ErrorKind::Interrupted {
-                    return Part::Failed;
+                    return None;
                 }
             }
         }
     }
-    Part::Failed
+    None
 }
 
 // What follows a write that had `done` bytes before it.
-fn after_write(done: usize, part: Part) -> Next
+fn after_write(done: usize, part: Option<usize>) -> ControlFlow<usize, usize>
     requires { Within (2 ^ 64 - 1 - done) part }
     ensures { result ≡ after_write_of done part }
 {
@@ -132,10 +119,9 @@ pub fn write_whole<W: Write>(to: &mut W, text: &[u8]) -> usize
     let mut done = 0;
     while done < text.len() {
         let part = write_part(to, &text[done..]);
-        let next = after_write(done, part);
-        match next {
-            Next::More(count) => done = count,
-            Next::End(count) => return count,
+        match after_write(done, part) {
+            ControlFlow::Continue(count) => done = count,
+            ControlFlow::Break(count) => return count,
         }
     }
     done

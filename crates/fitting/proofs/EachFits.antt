@@ -1,43 +1,30 @@
--- Tests of every entry of a list, and of each place of it.
-use Prim.Native.Nat.{ℕ, ◌^◌, ◌<◌}
-use mathlib.Core.Path.{◌≡◌}
-use mathlib.Core.Bool.{Bool}
-use mathlib.Core.List.{List}
-use native.Mathlib.Omega.{arith}
-use native.Mathlib.Decide.{dec_lt}
-use lib.Dec.{ltb}
-use lib.IntN.{ℤ, pos}
-use lib.ListN.{length, get_or, get_or-eq_default}
-use lib.Pow.{pow_pos}
+-- Tests of every entry of a list and of every number of a range, against the model's.
+use Rattle.std.proofs.Common.{ℕ, zero, suc, ◌+◌, ◌^◌, ℤ, Bool, ◌&&◌, ltb, List, [], ◌∷◌, ◌++◌, ◌≡◌, refl, ap, ◌∙◌, arith, zero-add}
+use mathlib.Core.Bool.{and-true}
+use Rattle.std.specs.List.{list_all, range_with_len}
+use Rattle.std.proofs.lemmas.List.Folds.{list_all-append}
 use Rattle.algebra.specs.Bounded.{all_to}
-use Rattle.algebra.proofs.Tests.{bool_same}
 use Rattle.model.specs.Writing.{all_fit, fits_signed_of, all_fit_signed_of}
-use Rattle.model.proofs.Decisions.{Decides, itself_iff, ltb_iff, all_iff}
-use Rattle.model.proofs.FieldRules.{Entries, InRange, zero_in_range, all_fit_iff, all_in_range_iff}
 
--- tests of propositions that say the same
-pub decides_same : {a b : Bool} {P Q : Type 0} → Decides a P → Decides b Q → (P → Q) → (Q → P) → a ≡ b
-decides_same {a} {b} d e to back = bool_same a b (λ t. e.passes (to (d.holds t))) (λ t. d.passes (back (e.holds t)))
+-- of every number of a list
+pub each_fits : (width : ℕ) (l : List ℕ) → list_all (λ x. ltb x (2 ^ width)) l ≡ all_fit width l
+unfolding all_fit
+each_fits width [] = refl
+each_fits width (x ∷ l) = ap (λ b. ltb x (2 ^ width) && b) (each_fits width l)
 
--- what holds of each entry of a list, and of the one that stands for a missing entry, holds at every place
-everywhere : {A : Type 0} (P : A → Type 0) (d : A) (l : List A) → P d → ((i : ℕ) → i < length l → P (get_or l i d)) → Entries P d l
-everywhere P d l none each i =
-    elim (dec_lt i (length l)) [
-      | yes b ↦ each i b
-      | no b ↦ rw (get_or-eq_default l d {n = i} (omega arith)) none
-    ]
+-- of every integer of a list
+pub each_in_range : (width : ℕ) (l : List ℤ) → list_all (fits_signed_of width) l ≡ all_fit_signed_of width l
+unfolding all_fit_signed_of
+each_in_range width [] = refl
+each_in_range width (z ∷ l) = ap (λ b. fits_signed_of width z && b) (each_in_range width l)
 
--- a number's test
-abbrev pub fits_at : (width : ℕ) → List ℕ → ℕ → Bool
-fits_at width l i = ltb (get_or l i 0) (2 ^ width)
+-- a range of one number more
+range_more : (a n : ℕ) → range_with_len a (suc n) ≡ range_with_len a n ++ (a + n) ∷ []
+range_more a zero = ap (λ b. b ∷ []) (omega arith)
+range_more a (suc n) = ap (λ l. a ∷ l) (range_more (a + 1) n ∙ ap (λ b. range_with_len (a + 1) n ++ b ∷ []) (omega arith))
 
--- an integer's
-abbrev pub in_range_at : (width : ℕ) → List ℤ → ℕ → Bool
-in_range_at width l i = fits_signed_of width (get_or l i (pos 0))
-
--- a test of every entry is a test at each place
-pub each_fits : (width : ℕ) (l : List ℕ) → all_to (length l) (fits_at width l) ≡ all_fit width l
-each_fits width l = decides_same (all_iff {n = length l} (λ i b. ltb_iff (get_or l i 0) (2 ^ width))) (all_fit_iff width l) (everywhere (λ x. x < 2 ^ width) 0 l (pow_pos width)) (λ h i b. h i)
-
-pub each_in_range : (width : ℕ) (l : List ℤ) → all_to (length l) (in_range_at width l) ≡ all_fit_signed_of width l
-each_in_range width l = decides_same (all_iff {n = length l} (λ i b. itself_iff (in_range_at width l i))) (all_in_range_iff width l) (everywhere (InRange width) (pos 0) l (zero_in_range width)) (λ h i b. h i)
+-- of every number of a range
+pub all_range : (p : ℕ → Bool) (n : ℕ) → list_all p (range_with_len 0 n) ≡ all_to n p
+unfolding all_to
+all_range p zero = refl
+all_range p (suc n) = ap (list_all p) (range_more 0 n) ∙ rw (list_all-append, zero-add, and-true, all_range p n)

@@ -1,19 +1,24 @@
--- The lists that the game writer is given, in parts, and what it is told of those that fit.
-use Rattle.std.specs.Prelude.{ℕ, ◌^◌, ◌<◌, ◌≡◌, List, [], T, ℤ, length}
+-- The fields that the game writer is given, and what it is told of those that fit.
+use Rattle.std.specs.Prelude.{ℕ, ◌^◌, ◌<◌, ◌≡◌, T, length}
 use Rattle.algebra.specs.Arrays.{item_z}
-use Rattle.model.specs.Writing.{GameFields, game_fields_of, fits_signed_of}
+use Rattle.model.specs.Writing.{GameFields, fits_signed_of}
+use Rattle.fitting.specs.declared.game_lists.GameLists.{GameLists}
 
--- D0 and the sets' lists alone
-abbrev pub set_lists : (root_weight : ℕ) → (set_players set_moves : List ℕ) → GameFields
-set_lists root_weight set_players set_moves = game_fields_of root_weight set_players set_moves [] [] [] [] [] [] [] []
-
--- the nodes' lists alone
-abbrev pub node_lists : (kinds parents moves weights node_sets chance_moves : List ℕ) → (payoffs1 payoffs2 : List ℤ) → GameFields
-node_lists kinds parents moves weights node_sets chance_moves payoffs1 payoffs2 = game_fields_of 0 [] [] kinds parents moves weights node_sets chance_moves payoffs1 payoffs2
-
--- of these, the lists that a node's kind decides about
-abbrev pub kind_lists : (kinds node_sets chance_moves : List ℕ) → (payoffs1 payoffs2 : List ℤ) → GameFields
-kind_lists kinds node_sets chance_moves payoffs1 payoffs2 = node_lists kinds [] [] [] node_sets chance_moves payoffs1 payoffs2
+-- the fields that stand in the lists
+abbrev pub fields_of_lists : GameLists → GameFields
+fields_of_lists l = record {
+  root_weight = l.root_weight;
+  set_players = l.set_players.now;
+  set_moves = l.set_moves.now;
+  kinds = l.kinds.now;
+  parents = l.parents.now;
+  moves = l.moves.now;
+  weights = l.weights.now;
+  node_sets = l.node_sets.now;
+  chance_moves = l.chance_moves.now;
+  payoffs1 = l.payoffs1.now;
+  payoffs2 = l.payoffs2.now;
+}
 
 -- the nodes' lists are side by side
 pub record Beside (t : GameFields) : Type 0 where

@@ -1,4 +1,4 @@
-// Refusal 17: whether what is given to a writer fits. Here numbers, in `game_fit` the lists of a game.
+// Refusal 17: whether what is given to a writer fits. Here numbers, in `game_lists` the fields of a game.
 #![tactic(auto)]
 
 ghost use Rattle.std.specs.Prelude.{◌≡◌, ◌^◌, ◌<◌, T, ltb};
@@ -6,7 +6,9 @@ ghost use Rattle.model.specs.Writing.{all_fit, fits_signed_of, all_fit_signed_of
 
 use records::Payload;
 
-pub mod game_fit;
+mod game_lists;
+
+pub use game_lists::GameLists;
 
 // Whether a number fits a field of `width` bits.
 pub fn fits_width(number: u64, width: usize) -> bool
@@ -21,41 +23,21 @@ pub fn all_fit(numbers: &[u64], width: usize) -> bool
     requires { width < 64 }
     ensures { result ≡ all_fit width numbers.now }
 {
-    let mut i = 0;
-    while i < numbers.len() {
-        if fits_width(numbers[i], width) {
-            i += 1;
-        } else {
-            return false;
-        }
-    }
-    true
+    numbers.iter().all(|&x| fits_width(x, width))
 }
 
 // Whether an integer fits the field of a payoff.
 fn fits_signed(x: i64) -> bool
     ensures { result ≡ fits_signed_of 16 x }
 {
-    if x < Payload::LEAST {
-        false
-    } else {
-        x <= Payload::GREATEST
-    }
+    Payload::LEAST <= x && x <= Payload::GREATEST
 }
 
 // Whether every integer does.
 pub fn all_fit_signed(numbers: &[i64]) -> bool
     ensures { result ≡ all_fit_signed_of 16 numbers.now }
 {
-    let mut i = 0;
-    while i < numbers.len() {
-        if fits_signed(numbers[i]) {
-            i += 1;
-        } else {
-            return false;
-        }
-    }
-    true
+    numbers.iter().all(|&x| fits_signed(x))
 }
 
 // A payoff that fits its field, as its record has it.

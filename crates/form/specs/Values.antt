@@ -1,13 +1,13 @@
 -- A pair of plans by its weights: what its evaluation needs, and what it gives.
-use Rattle.std.specs.Prelude.{ℕ, ◌≡◌, true, List, ℤ}
+use Rattle.std.specs.Prelude.{ℕ, ◌≡◌, true, List}
 use Rattle.algebra.specs.Arrays.{item, over}
 use Rattle.model.specs.Game.{Game, one, two}
 use Rattle.model.specs.Plan.{PlanPair, pair_fits_of}
 use Rattle.model.specs.Earnings.{value_count}
 use Rattle.model.specs.BestResponse.{best_count}
-use Rattle.loaded.specs.Loaded.{Loaded}
 use Rattle.loaded.specs.Weights.{plan_by_number, pair_by_number, Weights}
-use Rattle.loaded.specs.declared.Counts.{Counts}
+use Rattle.loaded.specs.declared.LoadedGame.{LoadedGame}
+use Rattle.responses.specs.Responses.{LoadedAs}
 use Rattle.responses.specs.BestMoves.{own_best_move}
 use Rattle.form.specs.declared.Values.{Values}
 
@@ -18,9 +18,9 @@ pub record PairWeights (g : Game) (x y : List ℕ) : Type 0 where
   pub fit : pair_fits_of g (pair_by_number g (item x) (item y)) ≡ true
 
 -- Some game is loaded, and x and y have the weights of a pair that fits it.
-pub record PairAsked (c : Counts) (numbers : List ℕ) (payoffs : List ℤ) (x y : List ℕ) : Type 0 where
+pub record PairAsked (l : LoadedGame) (x y : List ℕ) : Type 0 where
   pub game : Game
-  pub loaded : Loaded game c numbers payoffs
+  pub loaded : LoadedAs game l
   pub weights : PairWeights game x y
 
 -- each player's value over D0 × D1 × D2, and his best value over D0 × the other's D

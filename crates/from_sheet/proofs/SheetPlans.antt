@@ -1,6 +1,6 @@
 -- A sheet that is weighed and written: its refusals, and the plan file.
-use Prim.Native.Nat.{ℕ, zero, suc, ◌+◌, ◌-◌, ◌≤◌, ◌<◌}
-use mathlib.Core.Path.{◌≡◌, refl, sym, ap, ◌∙◌}
+use Prim.Native.Nat.{ℕ, suc, ◌+◌, ◌-◌, ◌≤◌, ◌<◌}
+use mathlib.Core.Path.{◌≡◌, sym, ap, ◌∙◌}
 use mathlib.Core.List.{List, [], ◌++◌}
 use native.Mathlib.Omega.{arith}
 use native.Mathlib.Nat as NatL
@@ -37,22 +37,20 @@ use Rattle.model.proofs.Sheets.{smallest_positive, weight_none, made_fits}
 use Rattle.model.proofs.Tree.{empty, after, owner}
 use Rattle.model.proofs.Calls.WritePlan.{fit_decided}
 use Rattle.model.proofs.Calls.PlanFromSheet.{rows_decided, good_given, good_limit}
-use Rattle.checks.specs.declared.Checked.{Checked}
-use Rattle.checks.specs.declared.Checked.TheVariants.{Fine, Broken}
-use Rattle.checks.specs.Checked.{number_of}
-use Rattle.checks.proofs.Chains.{Left, begin, call_refuses}
+use Rattle.std.specs.Prelude.{Result, Err}
+use Rattle.checks.specs.declared.Refusal.{Refusal}
+use Rattle.checks.specs.Answers.{refusal_number, number_of}
+use Rattle.checks.proofs.Chains.{Checked, Left, begin, number_some, call_refuses}
+use Rattle.checks.proofs.AnswerLaws.{number_err}
 use Rattle.checks.proofs.Files.{game_stops, game_passes}
 use Rattle.loaded.specs.Counts.{counts_of}
 use Rattle.loaded.specs.declared.Counts.{Counts}
-use Rattle.game.specs.declared.LoadAnswer.{LoadAnswer}
-use Rattle.game.specs.declared.LoadAnswer.TheVariants as Load
-use Rattle.game.specs.Load.{LoadedBy, load_refusal_of}
+use Rattle.game.specs.Load.{LoadedBy}
 use Rattle.game.proofs.Loads.{load_refused}
-use Rattle.game.proofs.Refusals.{told}
 use Rattle.plan.specs.Weights.{weights_of, in_file_order}
 use Rattle.plan.proofs.Refusals.{counted}
 use Rattle.smallest.specs.Multiples.{smallest_weight}
-use Rattle.weighing.specs.Weighing.{BothHeld, checked_as}
+use Rattle.weighing.specs.Weighing.{BothHeld}
 
 -- Both players' weights by number are the plan's in plan order.
 module _ {g : Game} (R : GameRules g) (odds : Odds) where
@@ -122,28 +120,16 @@ order_count c x y = length-append (list_to (c.sequences1 - 1) (λ i. item x (suc
 pub front_weights : (c : Counts) (x y out : List ℕ) {n : ℕ} {all : List ℕ} → all ≡ placed 0 (in_file_order c x y) out → n ≡ weights_of c → take n all ≡ in_file_order c x y
 front_weights c x y out e i = rw (e, i, placed_first) (take_at (in_file_order c x y) _ (weights_of c) (order_count c x y))
 
--- the number of a refusal, by the answer that it gives
-number_told : (k : ℕ) {r : Checked} {n : ℕ} → r ≡ checked_as k → r ≡ Broken n → (k ≡ number_of r) × ¬ (number_of r ≡ 0)
-number_told zero {r} {n} e b = absurd (fine_only (sym e ∙ b))
-  where
-    shows : Checked → ℕ
-    shows Fine = 0
-    shows (Broken k) = 1
-
-    fine_only : Fine ≡ Broken n → ⊥
-    fine_only q = let z = ap shows q in omega arith
-number_told (suc k) {r} e b = (sym (ap number_of e), λ z. let q = ap number_of e in omega arith)
-
 -- The rows of the call: the game's, then the sheet's.
 module _ (width limit : ℕ) (f : SheetFiles) (out : List ℕ) where
   abbrev rows : Rows SheetFiles
   rows = of (λ (f : SheetFiles). f.game) game_rows ++ sheet_rows width limit
 
   -- the game is refused
-  pub game_refused : {a : LoadAnswer} {k r : ℕ} {numbers : List ℕ} {payoffs : List ℤ} → LoadedBy f.game a numbers payoffs → a ≡ Load.Refused k → r ≡ load_refusal_of a → outcome (refused r) (out, tt) ≡ run (call width limit) f (out, tt)
+  pub game_refused : {a : Result Counts Refusal} {d : Refusal} {numbers : List ℕ} {payoffs : List ℤ} → LoadedBy f.game a numbers payoffs → a ≡ Err d → outcome (refused (refusal_number d)) (out, tt) ≡ run (call width limit) f (out, tt)
   unfolding call
-  game_refused L e g =
-      let (is, some) = load_refused f.game L.answer e g in
+  game_refused L e =
+      let (is, some) = load_refused f.game L.answer e in
       sym (call_refuses (call width limit) (rows_decided width limit).numbered f (out, tt) (game_stops (sheet_rows width limit) (λ (f : SheetFiles). f.game) (begin rows f) is some))
 
   -- the game is accepted
@@ -152,11 +138,9 @@ module _ (width limit : ℕ) (f : SheetFiles) (out : List ℕ) where
     left = game_passes (sheet_rows width limit) (λ (f : SheetFiles). f.game) (begin rows f) none
 
     -- the sheet is refused
-    pub sheet_refused : {r : Checked} {n m : ℕ} → r ≡ checked_as (refusal (sheet_rows width limit) f) → r ≡ Broken n → m ≡ number_of r → outcome (refused m) (out, tt) ≡ run (call width limit) f (out, tt)
+    pub sheet_refused : {r : Checked} {d : Refusal} → number_of r ≡ refusal (sheet_rows width limit) f → r ≡ Err d → outcome (refused (refusal_number d)) (out, tt) ≡ run (call width limit) f (out, tt)
     unfolding call
-    sheet_refused {r} {n} {m} e b i =
-        let told = number_told (refusal (sheet_rows width limit) f) e b in
-        sym (call_refuses (call width limit) (rows_decided width limit).numbered f (out, tt) (record { is = left.same ∙ told.0 ∙ sym i; some = λ z. told.1 (sym i ∙ z) }))
+    sheet_refused {d = d} e b = sym (call_refuses (call width limit) (rows_decided width limit).numbered f (out, tt) (record { is = left.same ∙ number_err e b; some = number_some d }))
 
     -- it is weighed, and its plan is written
     pub plan_written : limit ≤ largest_denominator → {c : Counts} {x y : List ℕ} → c ≡ counts_of (game_of f.game) → refusal (sheet_rows width limit) f ≡ 0 → BothHeld (game_of f.game) (odds_in width f) x y → WritePlan.write_plan_of (item x 0) (item y 0) (in_file_order c x y) out ≡ run (call width limit) f (out, tt)
@@ -175,11 +159,3 @@ module _ (width limit : ℕ) (f : SheetFiles) (out : List ℕ) where
         let fits : PlanFieldsFit t = (plan_fields_fit_iff t).holds ((plan_fields_iff (item x 0) (item y 0) (in_file_order c x y)).passes (rw (d1, d2, ← w) fit)) in
         let bytes : plan_bytes (item x 0) (item y 0) (in_file_order c x y) ≡ made_plan width f = rw (d1, d2, ← w) in
         same_good_run WritePlan.call (call width limit) fit_decided (rows_decided width limit) t f (out, tt) fits good (ap length bytes) (ap (λ (l : List ℕ). (l, tt)) bytes)
-
--- the number of a refusal is 0 where its answer is fine
-pub fine_none : (k : ℕ) {r : Checked} → r ≡ checked_as k → r ≡ Fine → k ≡ 0
-fine_none k e f = told checked_as number_of itself e f
-  where
-    itself : (k : ℕ) → number_of (checked_as k) ≡ k
-    itself zero = refl
-    itself (suc k) = refl

@@ -1,39 +1,29 @@
 -- What the answer to a file that is loaded says: accepted, with its counts, or refused, with its number.
-use Prim.Native.Nat.{ℕ, zero, suc}
-use mathlib.Core.Path.{◌≡◌, refl, sym, ap, ◌∙◌, subst}
+use Prim.Native.Nat.{ℕ}
+use mathlib.Core.Path.{◌≡◌, sym, subst}
 use mathlib.Core.List.{List}
-use native.Mathlib.Omega.{arith}
 use lib.IntN.{ℤ}
+use Rattle.std.specs.Prelude.{Result, Ok, Err}
 use Rattle.model.specs.Game.{game_of}
+use Rattle.model.specs.Call.{answer_of}
+use Rattle.model.specs.Exported.{same}
 use Rattle.model.specs.Checks.{game_refusal}
+use Rattle.checks.specs.declared.Refusal.{Refusal}
+use Rattle.checks.specs.Answers.{refusal_number, answered}
+use Rattle.checks.proofs.Chains.{number_some}
+use Rattle.checks.proofs.AnswerLaws.{gives, refuses}
 use Rattle.loaded.specs.Counts.{counts_of}
 use Rattle.loaded.specs.declared.Counts.{Counts}
 use Rattle.loaded.specs.Loaded.{NumbersLoaded}
-use Rattle.game.specs.declared.LoadAnswer.{LoadAnswer}
-use Rattle.game.specs.declared.LoadAnswer.TheVariants.{Loaded, Refused}
-use Rattle.game.specs.Load.{load_answer, load_refusal_of, LoadedBy}
-use Rattle.game.proofs.Refusals.{told, told_none}
-
--- the number of the answer
-load_number : (bytes : List ℕ) (k : ℕ) → load_refusal_of (load_answer k bytes) ≡ k
-load_number bytes zero = refl
-load_number bytes (suc k) = refl
+use Rattle.game.specs.Load.{LoadedBy}
 
 -- a game that was accepted has these counts
-pub load_accepted : (bytes : List ℕ) {a : LoadAnswer} {c : Counts} → a ≡ load_answer (game_refusal bytes) bytes → a ≡ Loaded c → (game_refusal bytes ≡ 0) × (c ≡ counts_of (game_of bytes))
-load_accepted bytes {a} {c} e f =
-    let none = told (λ k. load_answer k bytes) load_refusal_of (load_number bytes) e f in
-    let same : Loaded c ≡ Loaded (counts_of (game_of bytes)) = told_none (λ k. load_answer k bytes) load_refusal_of (load_number bytes) e f none in
-    (none, cc)
+pub load_accepted : (bytes : List ℕ) {a : Result Counts Refusal} {c : Counts} → answered same a ≡ answer_of (game_refusal bytes) (counts_of (game_of bytes)) → a ≡ Ok c → (game_refusal bytes ≡ 0) × (c ≡ counts_of (game_of bytes))
+load_accepted bytes e f = gives same (game_refusal bytes) (counts_of (game_of bytes)) e f
 
 -- the number of a game's refusal
-pub load_refused : (bytes : List ℕ) {a : LoadAnswer} {k r : ℕ} → a ≡ load_answer (game_refusal bytes) bytes → a ≡ Refused k → r ≡ load_refusal_of a → (r ≡ game_refusal bytes) × (¬ (r ≡ 0))
-load_refused bytes {a} {k} {r} e f g =
-    let is : r ≡ game_refusal bytes = g ∙ ap load_refusal_of f ∙ sym (told (λ k. load_answer k bytes) load_refusal_of (load_number bytes) e f) in
-    (is, λ z. not_given (told_none (λ k. load_answer k bytes) load_refusal_of (load_number bytes) e f (sym is ∙ z)))
-  where
-    not_given : ¬ (Refused k ≡ Loaded (counts_of (game_of bytes)))
-    not_given s = let z : ◌≡◌ {A = ℕ} 0 1 = cc in omega arith
+pub load_refused : (bytes : List ℕ) {a : Result Counts Refusal} {d : Refusal} → answered same a ≡ answer_of (game_refusal bytes) (counts_of (game_of bytes)) → a ≡ Err d → (refusal_number d ≡ game_refusal bytes) × (¬ (refusal_number d ≡ 0))
+load_refused bytes {d = d} e f = (sym (refuses same (game_refusal bytes) (counts_of (game_of bytes)) e f), number_some d)
 
 -- A file that was loaded: it is accepted, these are its counts, and its numbers are in the sections.
 pub record GameOpened (game : List ℕ) (c : Counts) (numbers : List ℕ) : Type 0 where
@@ -41,7 +31,7 @@ pub record GameOpened (game : List ℕ) (c : Counts) (numbers : List ℕ) : Type
   pub counts_are : c ≡ counts_of (game_of game)
   pub in_numbers : NumbersLoaded (game_of game) c numbers
 
-pub game_opened : (game : List ℕ) {a : LoadAnswer} {c : Counts} {numbers : List ℕ} {payoffs : List ℤ} → LoadedBy game a numbers payoffs → a ≡ Loaded c → GameOpened game c numbers
+pub game_opened : (game : List ℕ) {a : Result Counts Refusal} {c : Counts} {numbers : List ℕ} {payoffs : List ℤ} → LoadedBy game a numbers payoffs → a ≡ Ok c → GameOpened game c numbers
 game_opened game {c = c} {numbers = numbers} L e =
     let (none, is) = load_accepted game L.answer e in
     record { none = none; counts_are = is; in_numbers = subst (λ (k : Counts). NumbersLoaded (game_of game) k numbers) (sym is) (L.loaded none).in_numbers }

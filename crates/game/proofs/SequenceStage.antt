@@ -12,10 +12,15 @@ use Rattle.model.specs.Sequences.{first_node}
 use Rattle.model.specs.Table.{own_number}
 use Rattle.model.specs.GameChecks.{sets_non_empty_of, perfect_recall_of}
 use Rattle.model.specs.Checks.{tree_rows}
-use Rattle.checks.specs.declared.Checked.{Checked}
-use Rattle.checks.specs.declared.Checked.TheVariants.{Fine, Broken}
-use Rattle.checks.specs.Checked.{checked_of, number_of}
-use Rattle.checks.proofs.Chains.{Refuses, begin, passes, stops, ends}
+use Rattle.std.specs.Prelude.{Ok, Err}
+use Rattle.model.specs.Call.{given, answer_of}
+use Rattle.model.specs.Exported.{same}
+use Rattle.model.specs.Rows.{refusal}
+use Rattle.checks.specs.declared.Refusal.{Refusal}
+use Rattle.checks.specs.declared.Refusal.TheVariants.{EmptySet, Recall}
+use Rattle.checks.specs.Answers.{refusal_number, checked_of}
+use Rattle.checks.proofs.Chains.{Checked, Refuses, begin, passes, stops, ends, fine_test}
+use Rattle.checks.proofs.AnswerLaws.{given_is, refused_is}
 use Rattle.records.specs.declared.game_file.Header.{Header}
 use Rattle.records.proofs.Headers.{header_nodes, header_sets, header_weight}
 use Rattle.loaded.specs.Sections.{section_room, first_node_section, start_section, own_section_of, lead_section}
@@ -28,12 +33,9 @@ use Rattle.loaded.specs.declared.Counts.{Counts}
 use Rattle.loaded.proofs.Decoded.{decoded_apart}
 use Rattle.sequences.specs.declared.SequenceCounts.{SequenceCounts}
 use Rattle.sequences.specs.Sets.{sequence_counts, Numberable}
-use Rattle.sequences.specs.Recall.{OwnStored}
+use Rattle.sequences.specs.Recall.{OwnStored, OwnFilled}
 use Rattle.sequences.proofs.Stored.{stored_none}
-use Rattle.game.specs.declared.LoadAnswer.TheVariants.{Loaded, Refused}
-use Rattle.game.specs.Load.{load_answer}
 use Rattle.game.specs.Stages.{set_part, FileRooted, SequencesNumbered, SequencesIn, SequencesLoaded}
-use Rattle.game.proofs.Refusals.{refuses}
 
 -- first sequences are put: own sequences can be
 pub stored_first : {g : Game} {l k : List ℕ} → Decoded g l → Rooted g → Apart start_section (own_section_of one) l k → Held start_section (first_sequence g) g.sets k → OwnStored g one 0 k
@@ -89,28 +91,54 @@ module _ {b : List ℕ} {header : Header} {l : List ℕ} (F : FileRooted b heade
   counts_made e f = rw (header_nodes _ _ F.header_is, header_sets _ _ F.header_is, header_weight _ _ F.header_is, e, f)
 
 -- the answer of 12 and 13
-module _ (b : List ℕ) {r : Checked} (made : r ≡ checked_of 12 (sets_non_empty_of (game_of b))) where
-  refused_as : {m : ℕ} (k : List ℕ) → Refuses set_part b m → SequencesLoaded b (Refused m) k
-  refused_as k s = record {
-    answer = refuses (λ i. load_answer i b) Refused (λ i. refl) s.is s.some;
+module _ (b : List ℕ) {r : Checked} (made : r ≡ checked_of EmptySet (sets_non_empty_of (game_of b))) where
+  refused_as : {d : Refusal} (k : List ℕ) → Refuses set_part b (refusal_number d) → SequencesLoaded b (Err d) k
+  refused_as {d} k s = record {
+    answer = refused_is same (refusal set_part b) (counts_of (game_of b)) d s.is;
     sequences = λ e. absurd (s.some (sym s.is ∙ e));
   }
 
   -- 12 is broken
-  pub sets_refuse : {n m : ℕ} (k : List ℕ) → r ≡ Broken n → m ≡ number_of r → SequencesLoaded b (Refused m) k
+  pub sets_refuse : {d : Refusal} (k : List ℕ) → r ≡ Err d → SequencesLoaded b (Err d) k
   unfolding set_part tree_rows
-  sets_refuse k f g = refused_as k (stops (begin set_part b) made f g)
+  sets_refuse k f = refused_as k (stops EmptySet (begin set_part b) refl made f)
 
-  module _ {q : Checked} (fine : r ≡ Fine) (recall : q ≡ checked_of 13 (perfect_recall_of (game_of b))) where
+  module _ {q : Checked} {u : Unit {0}} (fine : r ≡ Ok u) (recall : q ≡ checked_of Recall (perfect_recall_of (game_of b))) where
     -- 13 is
-    pub recall_refuses : {n m : ℕ} (k : List ℕ) → q ≡ Broken n → m ≡ number_of q → SequencesLoaded b (Refused m) k
+    pub recall_refuses : {d : Refusal} (k : List ℕ) → q ≡ Err d → SequencesLoaded b (Err d) k
     unfolding set_part tree_rows
-    recall_refuses k f g = refused_as k (stops (passes (begin set_part b) made fine) recall f g)
+    recall_refuses k f = refused_as k (stops Recall (passes _ (begin set_part b) made fine) refl recall f)
 
     -- neither is
-    pub sequences_loaded : {counts : Counts} {k : List ℕ} → q ≡ Fine → counts ≡ counts_of (game_of b) → SequencesIn (game_of b) k → SequencesLoaded b (Loaded counts) k
+    pub sequences_loaded : {v : Unit {0}} {counts : Counts} {k : List ℕ} → q ≡ Ok v → counts ≡ counts_of (game_of b) → SequencesIn (game_of b) k → SequencesLoaded b (Ok counts) k
     unfolding set_part tree_rows
-    sequences_loaded f e S = record {
-      answer = ap Loaded e ∙ ap (λ (i : ℕ). load_answer i b) (sym (ends (passes (passes (begin set_part b) made fine) recall f)));
+    sequences_loaded {counts = counts} f e S = record {
+      answer = given_is same (refusal set_part b) (counts_of (game_of b)) counts (ends (passes _ (passes _ (begin set_part b) made fine) recall f)) e;
       sequences = λ z. S;
     }
+
+-- what the calls of the stage say one after the other, of a file that stands in the sections
+module _ {b : List ℕ} {header : Header} {l k : List ℕ} (F : FileRooted b header l) (put : ((g : Game) → header.nodes ≡ g.nodes → header.sets ≡ g.sets → Decoded g l → Rooted g → Held first_node_section (first_node g) g.sets k) × Apart first_node_section start_section l k) where
+  first_put : Held first_node_section (first_node (game_of b)) (game_of b).sets k
+  first_put = put.0 (game_of b) (header_nodes _ _ F.header_is) (header_sets _ _ F.header_is) F.decoded F.rooted
+
+  module _ {r : Checked} (tested : (g : Game) → header.nodes ≡ g.nodes → header.sets ≡ g.sets → Held first_node_section (first_node g) g.sets k → r ≡ checked_of EmptySet (sets_non_empty_of g)) where
+    pub made_12 : r ≡ checked_of EmptySet (sets_non_empty_of (game_of b))
+    made_12 = tested (game_of b) (header_nodes _ _ F.header_is) (header_sets _ _ F.header_is) first_put
+
+    module _ {u : Unit {0}} (fine : r ≡ Ok u) where
+      fine_12 : T (sets_non_empty_of (game_of b))
+      fine_12 = fine_test EmptySet (sets_non_empty_of (game_of b)) made_12 fine
+
+      pub number_asked : Numberable (game_of b) × Decoded (game_of b) k
+      number_asked = (numberable F fine_12, decoded_apart F.decoded put.1 (omega arith))
+
+      module _ {s : SequenceCounts} {m : List ℕ} (N : ((g : Game) → header.nodes ≡ g.nodes → header.sets ≡ g.sets → Numberable g → Decoded g k → SequencesNumbered g s m) × Apart start_section lead_section k m) where
+        pub numbered : SequencesNumbered (game_of b) s m
+        numbered = N.0 (game_of b) (header_nodes _ _ F.header_is) (header_sets _ _ F.header_is) number_asked.0 number_asked.1
+
+        pub filled : SequencesIn (game_of b) m
+        filled = sequences_in F fine_12 first_put N.1 numbered
+
+        pub made_13 : {q : Checked} → ((g : Game) → header.nodes ≡ g.nodes → OwnFilled g m → q ≡ checked_of Recall (perfect_recall_of g)) → q ≡ checked_of Recall (perfect_recall_of (game_of b))
+        made_13 recall = recall (game_of b) (header_nodes _ _ F.header_is) filled.filled

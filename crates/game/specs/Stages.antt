@@ -1,5 +1,5 @@
 -- The stages of loading a game file: which checks each makes, what it takes up, and what it leaves.
-use Rattle.std.specs.Prelude.{ℕ, zero, suc, ◌≡◌, List, ◌++◌, ℤ, length, take, drop, T}
+use Rattle.std.specs.Prelude.{ℕ, ◌≡◌, List, ◌++◌, ℤ, length, take, drop, T, Result}
 use Rattle.algebra.specs.Sections.{Held}
 use Rattle.model.specs.Limits.{GameLimits}
 use Rattle.model.specs.Game.{Game, Player, game_of}
@@ -8,6 +8,10 @@ use Rattle.model.specs.Rules.{GameRules}
 use Rattle.model.specs.GameChecks.{counts_positive_of, set_moves_in_range, moves_lead_on_of}
 use Rattle.model.specs.Rows.{Rows, refusal}
 use Rattle.model.specs.Checks.{record_rows, tree_rows, game_refusal}
+use Rattle.model.specs.Call.{answer_of}
+use Rattle.model.specs.Exported.{same}
+use Rattle.checks.specs.declared.Refusal.{Refusal}
+use Rattle.checks.specs.Answers.{answered}
 use Rattle.records.specs.declared.game_file.Header.{Header}
 use Rattle.records.specs.Records.{header_of}
 use Rattle.loaded.specs.Sections.{start_section, own_section_of}
@@ -20,11 +24,7 @@ use Rattle.loaded.specs.declared.Counts.{Counts}
 use Rattle.sequences.specs.declared.SequenceCounts.{SequenceCounts}
 use Rattle.sequences.specs.Sets.{sequence_counts}
 use Rattle.sequences.specs.Recall.{OwnFilled}
-use Rattle.decoding.specs.declared.NodesAnswer.{NodesAnswer}
-use Rattle.decoding.specs.declared.NodesAnswer.TheVariants.{Leaves, Broken}
 use Rattle.decoding.specs.Decoding.{PayoffsLoaded}
-use Rattle.game.specs.declared.LoadAnswer.{LoadAnswer}
-use Rattle.game.specs.Load.{load_answer}
 
 -- 5 and 6: set entries and node records
 unfoldable pub record_part : Rows (List ℕ)
@@ -38,14 +38,9 @@ tree_part = drop 2 record_rows ++ take 3 tree_rows
 unfoldable pub set_part : Rows (List ℕ)
 set_part = drop 3 tree_rows
 
--- how many leaves there are, by a refusal's number
-abbrev pub leaves_by : ℕ → (leaves : ℕ) → NodesAnswer
-leaves_by zero leaves = Leaves leaves
-leaves_by (suc k) leaves = Broken (suc k)
-
 -- After 5 and 6: where they pass, every record stands in the sections.
-pub record RecordsLoaded (bytes : List ℕ) (r : NodesAnswer) (numbers : List ℕ) (payoffs : List ℤ) : Type 0 where
-  pub answer : r ≡ leaves_by (refusal record_part bytes) (length (leaves_of (game_of bytes)))
+pub record RecordsLoaded (bytes : List ℕ) (r : Result ℕ Refusal) (numbers : List ℕ) (payoffs : List ℤ) : Type 0 where
+  pub answer : answered same r ≡ answer_of (refusal record_part bytes) (length (leaves_of (game_of bytes)))
   pub decoded : refusal record_part bytes ≡ 0 → Decoded (game_of bytes) numbers
   pub by_leaf : refusal record_part bytes ≡ 0 → PayoffsLoaded (game_of bytes) payoffs
 
@@ -76,13 +71,13 @@ pub record SequencesIn (g : Game) (numbers : List ℕ) : Type 0 where
   pub starts : Held start_section (first_sequence g) g.sets numbers
 
 -- After 12 and 13.
-pub record SequencesLoaded (bytes : List ℕ) (r : LoadAnswer) (numbers : List ℕ) : Type 0 where
-  pub answer : r ≡ load_answer (refusal set_part bytes) bytes
+pub record SequencesLoaded (bytes : List ℕ) (r : Result Counts Refusal) (numbers : List ℕ) : Type 0 where
+  pub answer : answered same r ≡ answer_of (refusal set_part bytes) (counts_of (game_of bytes))
   pub sequences : refusal set_part bytes ≡ 0 → SequencesIn (game_of bytes) numbers
 
 -- After 1 to 13.
-pub record FileChecked (bytes : List ℕ) (r : LoadAnswer) (numbers : List ℕ) (payoffs : List ℤ) : Type 0 where
-  pub answer : r ≡ load_answer (game_refusal bytes) bytes
+pub record FileChecked (bytes : List ℕ) (r : Result Counts Refusal) (numbers : List ℕ) (payoffs : List ℤ) : Type 0 where
+  pub answer : answered same r ≡ answer_of (game_refusal bytes) (counts_of (game_of bytes))
   pub sequences : game_refusal bytes ≡ 0 → SequencesIn (game_of bytes) numbers
   pub by_leaf : game_refusal bytes ≡ 0 → PayoffsLoaded (game_of bytes) payoffs
 

@@ -4,63 +4,52 @@ ghost use Rattle.model.specs.Game.{game_of};
 ghost use Rattle.model.specs.GameChecks.{has_header_of, has_edition_of, counts_positive_of, has_length_of};
 ghost use Rattle.model.specs.Rows.{refusal};
 ghost use Rattle.model.specs.Checks.{header_rows};
-ghost use Rattle.checks.specs.Checked.{checked_of};
-ghost use Rattle.game.specs.Refusals.{checked_by};
+ghost use Rattle.checks.specs.declared.Refusal.TheVariants.{NoHeader, WrongEdition, ZeroCount, WrongLength};
+ghost use Rattle.checks.specs.Answers.{checked_of, number_of};
 
-use checks::Checked;
+use checks::{Refusal, check};
 use records::Header;
 
 // Check 1.
-fn has_header(bytes: &[u8]) -> Checked
-    ensures { result ≡ checked_of 1 (has_header_of bytes.now) }
+fn has_header(bytes: &[u8]) -> Result<(), Refusal>
+    ensures { result ≡ checked_of NoHeader (has_header_of bytes.now) }
 {
-    checks::check(1, Header::BYTES <= bytes.len())
+    check(Refusal::NoHeader, Header::BYTES <= bytes.len())
 }
 
 // Check 2.
-fn has_edition(bytes: &[u8]) -> Checked
-    ensures { result ≡ checked_of 2 (has_edition_of bytes.now) }
+fn has_edition(bytes: &[u8]) -> Result<(), Refusal>
+    ensures { result ≡ checked_of WrongEdition (has_edition_of bytes.now) }
 {
     let header = Header::read(bytes);
-    checks::check(2, header.edition == Header::EDITION)
+    check(Refusal::WrongEdition, header.edition == Header::EDITION)
 }
 
 // Check 3.
-fn counts_positive(bytes: &[u8]) -> Checked
-    ensures { result ≡ checked_of 3 (counts_positive_of (game_of bytes.now)) }
+fn counts_positive(bytes: &[u8]) -> Result<(), Refusal>
+    ensures { result ≡ checked_of ZeroCount (counts_positive_of (game_of bytes.now)) }
 {
     let header = Header::read(bytes);
-    if 0 < header.nodes {
-        if 0 < header.root_weight {
-            return Checked::Fine;
-        }
-    }
-    Checked::Broken(3)
+    check(
+        Refusal::ZeroCount,
+        0 < header.nodes && 0 < header.root_weight,
+    )
 }
 
 // Check 4.
-fn has_length(bytes: &[u8]) -> Checked
-    ensures { result ≡ checked_of 4 (has_length_of bytes.now) }
+fn has_length(bytes: &[u8]) -> Result<(), Refusal>
+    ensures { result ≡ checked_of WrongLength (has_length_of bytes.now) }
 {
     let header = Header::read(bytes);
-    checks::check(4, bytes.len() == header.file_bytes())
+    check(Refusal::WrongLength, bytes.len() == header.file_bytes())
 }
 
 // Checks 1 to 4.
-pub fn check_header(bytes: &[u8]) -> Checked
-    ensures { result ≡ checked_by (refusal header_rows bytes.now) }
+pub fn check_header(bytes: &[u8]) -> Result<(), Refusal>
+    ensures { number_of result ≡ refusal header_rows bytes.now }
 {
-    let c1 = has_header(bytes);
-    let Checked::Fine = c1 else {
-        return c1;
-    };
-    let c2 = has_edition(bytes);
-    let Checked::Fine = c2 else {
-        return c2;
-    };
-    let c3 = counts_positive(bytes);
-    let Checked::Fine = c3 else {
-        return c3;
-    };
+    has_header(bytes)?;
+    has_edition(bytes)?;
+    counts_positive(bytes)?;
     has_length(bytes)
 }

@@ -8,13 +8,11 @@ ghost use Rattle.loaded.specs.Sections.{start_section, lead_section, numbers_roo
 ghost use Rattle.loaded.specs.Leaves.{leaves_of};
 ghost use Rattle.loaded.specs.Loaded.{Decoded, NumbersLoaded};
 ghost use Rattle.sequences.specs.Sets.{Numberable};
-ghost use Rattle.game.specs.Refusals.{checked_by};
+ghost use Rattle.checks.specs.Answers.{number_of};
 ghost use Rattle.game.specs.Stages.{tree_part, RecordsLoaded, FileDecoded, FileRooted, SequencesNumbered, SequencesLoaded, Sequenced};
 
-use super::LoadAnswer;
-use checks::Checked;
-use decoding::NodesAnswer;
-use loaded::Counts;
+use checks::Refusal;
+use loaded::{Counts, Player};
 use records::Header;
 use sequences::{SequenceCounts, recall, sets};
 use tree::{children, each_node, paths};
@@ -25,39 +23,24 @@ pub fn load_records(
     header: Header,
     numbers: &mut [u16],
     payoffs: &mut [i16],
-) -> NodesAnswer
+) -> Result<usize, Refusal>
     requires { (header ≡ header_of bytes.now) × (numbers_room ≤ length numbers.old) × (payoffs_room ≤ length payoffs.old) }
     ensures { RecordsLoaded bytes.now result numbers.new payoffs.new }
 {
-    let c5 = decoding::load_sets(bytes, header.sets, numbers);
-    let Checked::Fine = c5 else {
-        return NodesAnswer::Broken(checks::number(c5));
-    };
+    decoding::load_sets(bytes, header.sets, numbers)?;
     decoding::load_nodes(bytes, header, numbers, payoffs)
 }
 
 // Checks 7 to 11: each node by itself, and the tree.
-pub fn check_tree(numbers: &[u16], header: Header) -> Checked
+pub fn check_tree(numbers: &[u16], header: Header) -> Result<(), Refusal>
     requires { (bytes : List ℕ) × FileDecoded bytes header numbers.now }
-    ensures { (bytes : List ℕ) → FileDecoded bytes header numbers.now → result ≡ checked_by (refusal tree_part bytes) }
+    ensures { (bytes : List ℕ) → FileDecoded bytes header numbers.now → number_of result ≡ refusal tree_part bytes }
 {
     let nodes = header.nodes;
-    let c7 = each_node::payloads_in_range(numbers, nodes, header.sets);
-    let Checked::Fine = c7 else {
-        return c7;
-    };
-    let c8 = each_node::nodes_attached(numbers, nodes);
-    let Checked::Fine = c8 else {
-        return c8;
-    };
-    let c9 = children::moves_lead_on(numbers, nodes);
-    let Checked::Fine = c9 else {
-        return c9;
-    };
-    let c10 = children::weights_obey_rules(numbers, nodes, header.root_weight);
-    let Checked::Fine = c10 else {
-        return c10;
-    };
+    each_node::payloads_in_range(numbers, nodes, header.sets)?;
+    each_node::nodes_attached(numbers, nodes)?;
+    children::moves_lead_on(numbers, nodes)?;
+    children::weights_obey_rules(numbers, nodes, header.root_weight)?;
     paths::paths_in_limit(numbers, nodes)
 }
 
@@ -67,29 +50,23 @@ fn number_sequences(numbers: &mut [u16], nodes: usize, sets: usize) -> SequenceC
     ensures { ((g : Game) → nodes ≡ g.nodes → sets ≡ g.sets → Numberable g → Decoded g numbers.old → SequencesNumbered g result numbers.new) × Apart start_section lead_section numbers.old numbers.new }
 {
     let counts = sets::first_sequences(numbers, sets);
-    recall::own_numbers(numbers, nodes, 0);
-    recall::own_numbers(numbers, nodes, 1);
+    recall::own_numbers(numbers, nodes, Player::One);
+    recall::own_numbers(numbers, nodes, Player::Two);
     counts
 }
 
 // Checks 12 and 13, with the sequences by number: the counts of the loaded game, or the refusal.
-pub fn load_sequences(numbers: &mut [u16], header: Header, leaves: usize) -> LoadAnswer
+pub fn load_sequences(numbers: &mut [u16], header: Header, leaves: usize) -> Result<Counts, Refusal>
     requires { (bytes : List ℕ) × FileRooted bytes header numbers.old }
     ensures { (bytes : List ℕ) → FileRooted bytes header numbers.old → leaves ≡ length (leaves_of (game_of bytes)) → SequencesLoaded bytes result numbers.new }
 {
     let nodes = header.nodes;
     let sets = header.sets;
     sets::first_nodes(numbers, nodes, sets);
-    let c12 = sets::sets_non_empty(numbers, nodes, sets);
-    let Checked::Fine = c12 else {
-        return LoadAnswer::Refused(checks::number(c12));
-    };
+    sets::sets_non_empty(numbers, nodes, sets)?;
     let sequences = number_sequences(numbers, nodes, sets);
-    let c13 = recall::perfect_recall(numbers, nodes);
-    let Checked::Fine = c13 else {
-        return LoadAnswer::Refused(checks::number(c13));
-    };
-    LoadAnswer::Loaded(Counts {
+    recall::perfect_recall(numbers, nodes)?;
+    Ok(Counts {
         nodes,
         sets,
         leaves,

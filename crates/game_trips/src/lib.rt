@@ -2,59 +2,56 @@
 // Any bytes, lists and numbers are taken, nothing is asked of the caller.
 #![tactic(auto)]
 
-ghost use Rattle.std.specs.Prelude.{◌≡◌, ◌≤◌, length, take};
+ghost use Rattle.std.specs.Prelude.{◌≡◌};
 ghost use Rattle.model.specs.Call.{outcome};
-ghost use Rattle.model.specs.Writing.{game_fields_of, field_lists};
+ghost use Rattle.model.specs.Exported.{same};
 ghost use Rattle.model.specs.Calls.GameFields.{lists};
 ghost use Rattle.model.specs.Calls.WriteGame.{write_game_of};
 ghost use Rattle.model.specs.Calls.RewriteGame.{rewrite_game_of};
 ghost use Rattle.model.specs.Calls.RereadGame.{reread_game_of};
-ghost use Rattle.fields.specs.Answers.{fields_answered};
-ghost use Rattle.checks.specs.Answers.{write_answered};
+ghost use Rattle.checks.specs.Answers.{answered};
+ghost use Rattle.columns.specs.Columns.{FieldsFit};
+ghost use Rattle.columns.specs.Buffers.{held, SameBuffers};
+ghost use Rattle.fields.specs.Answers.{fields_seen};
+ghost use Rattle.fitting.specs.GameLists.{fields_of_lists};
+ghost use Rattle.game_trips.specs.Fronts.{fronts};
 
-use checks::WriteAnswer;
-use fields::FieldsAnswer;
+use checks::Refusal;
+use columns::GameBuffers;
+use fitting::GameLists;
+use game::GameCounts;
 use records::{Header, NodeRecord};
 
-// Writes the first `h` entries of the sets' lists and the first `n` of the nodes'.
+// Writes the first `h` entries of the sets' buffers and the first `n` of the nodes'.
 fn write_fronts(
     root_weight: u64,
     h: usize,
     n: usize,
-    set_players: &[u64],
-    set_moves: &[u64],
-    kinds: &[u64],
-    parents: &[u64],
-    moves: &[u64],
-    weights: &[u64],
-    node_sets: &[u64],
-    chance_moves: &[u64],
-    payoffs1: &[i64],
-    payoffs2: &[i64],
+    buffers: &GameBuffers<'_>,
     out: &mut [u8],
-) -> WriteAnswer
-    requires { (h ≤ length set_players.now) × (h ≤ length set_moves.now) × (n ≤ length kinds.now) × (n ≤ length parents.now) × (n ≤ length moves.now) × (n ≤ length weights.now) × (n ≤ length node_sets.now) × (n ≤ length chance_moves.now) × (n ≤ length payoffs1.now) × (n ≤ length payoffs2.now) }
-    ensures { outcome (write_answered result) (out.new, tt) ≡ write_game_of (game_fields_of root_weight (take h set_players.now) (take h set_moves.now) (take n kinds.now) (take n parents.now) (take n moves.now) (take n weights.now) (take n node_sets.now) (take n chance_moves.now) (take n payoffs1.now) (take n payoffs2.now)) out.old }
+) -> Result<usize, Refusal>
+    requires { FieldsFit h n (held buffers.now) }
+    ensures { outcome (answered same result) (out.new, tt) ≡ write_game_of (fronts root_weight h n (held buffers.now)) out.old }
 {
-    game_writer::write(
+    let read = GameLists {
         root_weight,
-        &set_players[..h],
-        &set_moves[..h],
-        &kinds[..n],
-        &parents[..n],
-        &moves[..n],
-        &weights[..n],
-        &node_sets[..n],
-        &chance_moves[..n],
-        &payoffs1[..n],
-        &payoffs2[..n],
-        out,
-    )
+        set_players: &buffers.set_players[..h],
+        set_moves: &buffers.set_moves[..h],
+        kinds: &buffers.kinds[..n],
+        parents: &buffers.parents[..n],
+        moves: &buffers.moves[..n],
+        weights: &buffers.weights[..n],
+        node_sets: &buffers.node_sets[..n],
+        chance_moves: &buffers.chance_moves[..n],
+        payoffs1: &buffers.payoffs1[..n],
+        payoffs2: &buffers.payoffs2[..n],
+    };
+    game_writer::write(&read, out)
 }
 
 // Reads all fields of a game and writes them again: the game file's own bytes.
-pub fn rewrite_game(game: &[u8], out: &mut [u8]) -> WriteAnswer
-    ensures { outcome (write_answered result) (out.new, tt) ≡ rewrite_game_of game.now out.old }
+pub fn rewrite_game(game: &[u8], out: &mut [u8]) -> Result<usize, Refusal>
+    ensures { outcome (answered same result) (out.new, tt) ≡ rewrite_game_of game.now out.old }
 {
     let mut set_players = [0u64; NodeRecord::NODES];
     let mut set_moves = [0u64; NodeRecord::NODES];
@@ -66,102 +63,33 @@ pub fn rewrite_game(game: &[u8], out: &mut [u8]) -> WriteAnswer
     let mut chance_moves = [0u64; NodeRecord::NODES];
     let mut payoffs1 = [0i64; NodeRecord::NODES];
     let mut payoffs2 = [0i64; NodeRecord::NODES];
-    let read = fields::game_fields(
-        game,
-        &mut set_players,
-        &mut set_moves,
-        &mut kinds,
-        &mut parents,
-        &mut moves,
-        &mut weights,
-        &mut node_sets,
-        &mut chance_moves,
-        &mut payoffs1,
-        &mut payoffs2,
-    );
-    let FieldsAnswer::Given {
-        nodes,
-        sets,
-        root_weight,
-    } = read
-    else {
-        return WriteAnswer::Refused(fields::refusal(read));
+    let mut buffers = GameBuffers {
+        set_players: &mut set_players,
+        set_moves: &mut set_moves,
+        kinds: &mut kinds,
+        parents: &mut parents,
+        moves: &mut moves,
+        weights: &mut weights,
+        node_sets: &mut node_sets,
+        chance_moves: &mut chance_moves,
+        payoffs1: &mut payoffs1,
+        payoffs2: &mut payoffs2,
     };
-    let h = bits::index(sets);
-    let n = bits::index(nodes);
-    write_fronts(
-        root_weight,
-        h,
-        n,
-        &set_players,
-        &set_moves,
-        &kinds,
-        &parents,
-        &moves,
-        &weights,
-        &node_sets,
-        &chance_moves,
-        &payoffs1,
-        &payoffs2,
-        out,
-    )
+    let counts = fields::game_fields(game, &mut buffers)?;
+    let h = bits::index(counts.sets);
+    let n = bits::index(counts.nodes);
+    write_fronts(counts.root_weight, h, n, &buffers, out)
 }
 
 // Writes the fields of a game and reads them back: the counts and the very lists that are given.
 pub fn reread_game(
-    root_weight: u64,
-    set_players: &[u64],
-    set_moves: &[u64],
-    kinds: &[u64],
-    parents: &[u64],
-    moves: &[u64],
-    weights: &[u64],
-    node_sets: &[u64],
-    chance_moves: &[u64],
-    payoffs1: &[i64],
-    payoffs2: &[i64],
-    set_players_out: &mut [u64],
-    set_moves_out: &mut [u64],
-    kinds_out: &mut [u64],
-    parents_out: &mut [u64],
-    moves_out: &mut [u64],
-    weights_out: &mut [u64],
-    node_sets_out: &mut [u64],
-    chance_moves_out: &mut [u64],
-    payoffs1_out: &mut [i64],
-    payoffs2_out: &mut [i64],
-) -> FieldsAnswer
-    ensures { outcome (fields_answered result) (lists (field_lists set_players_out.new set_moves_out.new kinds_out.new parents_out.new moves_out.new weights_out.new node_sets_out.new chance_moves_out.new payoffs1_out.new payoffs2_out.new)) ≡ reread_game_of (game_fields_of root_weight set_players.now set_moves.now kinds.now parents.now moves.now weights.now node_sets.now chance_moves.now payoffs1.now payoffs2.now) (lists (field_lists set_players_out.old set_moves_out.old kinds_out.old parents_out.old moves_out.old weights_out.old node_sets_out.old chance_moves_out.old payoffs1_out.old payoffs2_out.old)) }
+    given: &GameLists<'_>,
+    buffers: &mut GameBuffers<'_>,
+) -> Result<GameCounts, Refusal>
+    ensures call { outcome (answered fields_seen result) (lists (held buffers.new)) ≡ reread_game_of (fields_of_lists given.now) (lists (held buffers.old)) }
+    ensures same { SameBuffers buffers.old buffers.new }
 {
     let mut file = [0u8; Header::LONGEST_FILE];
-    let written = game_writer::write(
-        root_weight,
-        set_players,
-        set_moves,
-        kinds,
-        parents,
-        moves,
-        weights,
-        node_sets,
-        chance_moves,
-        payoffs1,
-        payoffs2,
-        &mut file,
-    );
-    let WriteAnswer::Written(size) = written else {
-        return FieldsAnswer::Refused(checks::refusal(written));
-    };
-    fields::game_fields(
-        &file[..size],
-        set_players_out,
-        set_moves_out,
-        kinds_out,
-        parents_out,
-        moves_out,
-        weights_out,
-        node_sets_out,
-        chance_moves_out,
-        payoffs1_out,
-        payoffs2_out,
-    )
+    let size = game_writer::write(given, &mut file)?;
+    fields::game_fields(&file[..size], buffers)
 }

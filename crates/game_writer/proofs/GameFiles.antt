@@ -9,7 +9,7 @@ use lib.ListN.{length, length-append}
 use Rattle.algebra.specs.Arrays.{placed}
 use Rattle.algebra.specs.Bounded.{join_to}
 use Rattle.algebra.proofs.Arrays.{placed_twice}
-use Rattle.algebra.proofs.Lists.{join_to_cong, length_join_to}
+use Rattle.algebra.proofs.Lists.{length_join_to}
 use Rattle.model.specs.Bits.{packed, pack}
 use Rattle.model.specs.Writing.{GameFields, set_count, node_count, set_bits, node_bits, header_bits, game_bytes, game_fields_fit}
 use Rattle.model.specs.Rules.{FieldsFit}
@@ -18,37 +18,30 @@ use Rattle.model.specs.Calls.WriteGame.{rows, call, write_game_of}
 use Rattle.model.proofs.Bits.{length_bits, length_packed}
 use Rattle.model.proofs.GameTrips.{length_game}
 use Rattle.model.proofs.Packing.{pack_whole, pack_append}
-use Rattle.checks.specs.declared.Checked.{Checked}
-use Rattle.checks.specs.declared.Checked.TheVariants.{Fine, Broken}
-use Rattle.checks.specs.Checked.{checked_of, number_of}
-use Rattle.checks.proofs.Chains.{fine_holds}
-use Rattle.checks.specs.declared.WriteAnswer.{WriteAnswer}
-use Rattle.checks.specs.declared.WriteAnswer.TheVariants.{Written, Refused}
-use Rattle.checks.specs.Answers.{write_answered}
+use Rattle.std.specs.Prelude.{Result, Ok, Err}
+use Rattle.model.specs.Exported.{same}
+use Rattle.checks.specs.declared.Refusal.{Refusal}
+use Rattle.checks.specs.declared.Refusal.TheVariants.{Number, Room}
+use Rattle.checks.specs.Answers.{checked_of, answered}
+use Rattle.checks.proofs.Chains.{Checked, fine_holds}
 use Rattle.records.specs.declared.game_file.Header.{Header}
 use Rattle.records.specs.Records as Records
-use Rattle.fitting.specs.GameLists.{set_lists}
-use Rattle.fitting.proofs.GameFits.{node_part}
 use Rattle.game_writer.proofs.Puttings.{byte_count}
 use Rattle.fitting.proofs.Refusals.{misfit, short, written}
-use Rattle.game_writer.proofs.Nodes.{set_width, node_is}
+use Rattle.game_writer.proofs.Nodes.{set_width}
 
 -- where the records begin after a header that is made for a file
 pub header_records : (x : Header) {nodes sets root_weight : ℕ} → x ≡ Records.header_with nodes sets root_weight → x.records ≡ 40 + 8 * sets
 header_records x e = ap (λ (y : Header). y.records) e
 
 module _ (t : GameFields) where
-  -- the sets' lists alone
-  abbrev sets : GameFields
-  sets = set_lists 0 t.set_players t.set_moves
-
   -- the bytes of the set entries
   abbrev set_bytes : List ℕ
-  set_bytes = pack (join_to (length t.set_players) (set_bits sets))
+  set_bytes = pack (join_to (length t.set_players) (set_bits t))
 
   -- the bytes of the node records
   abbrev node_bytes : List ℕ
-  node_bytes = pack (join_to (length t.kinds) (node_bits (node_part t)))
+  node_bytes = pack (join_to (length t.kinds) (node_bits t))
 
   -- the bits of the header
   abbrev header : List ℕ
@@ -65,9 +58,8 @@ module _ (t : GameFields) where
   game_parts =
       let entries = join_to (length t.set_players) (set_bits t) in
       let records = join_to (length t.kinds) (node_bits t) in
-      let same : join_to (length t.kinds) (node_bits (node_part t)) ≡ records = join_to_cong (length t.kinds) (node_bits (node_part t)) (node_bits t) (λ n l. sym (node_is (node_part t) n) ∙ node_is t n) in
       let front : length (header ++ entries) ≡ 8 * (5 + length t.set_players) = length-append header entries ∙ omega (arith, header_size, length_join_to 8 (length t.set_players) (set_bits t) (λ h l. set_width t h)) in
-      rw (pack_append (5 + length t.set_players) (header ++ entries) records front, pack_append 5 header entries header_size, pack_whole 5 header header_size, same)
+      rw (pack_append (5 + length t.set_players) (header ++ entries) records front, pack_append 5 header entries header_size, pack_whole 5 header header_size)
 
   -- the three parts put one after the other
   pub game_put : (out : List ℕ) {x : Header} → x ≡ Records.header_with (length t.kinds) (length t.set_players) t.root_weight → {headed entered after : List ℕ}
@@ -75,37 +67,37 @@ module _ (t : GameFields) where
   game_put out {x} e f g h =
       let at : x.records / 8 ≡ 5 + length t.set_players = omega (arith, header_records x e) in
       let first : placed 5 set_bytes (placed 0 (packed 5 header) out) ≡ placed 0 (packed 5 header ++ set_bytes) out = rw (length_packed 5 header) at (placed_twice 0 (packed 5 header) set_bytes out (omega arith)) in
-      let front : 0 + length (packed 5 header ++ set_bytes) ≡ 5 + length t.set_players = omega (arith, length-append (packed 5 header) set_bytes, length_packed 5 header, byte_count 5 1 (set_bits sets) (set_width sets) (length t.set_players)) in
+      let front : 0 + length (packed 5 header ++ set_bytes) ≡ 5 + length t.set_players = omega (arith, length-append (packed 5 header) set_bytes, length_packed 5 header, byte_count 5 1 (set_bits t) (set_width t) (length t.set_players)) in
       let second : placed (5 + length t.set_players) node_bytes (placed 0 (packed 5 header ++ set_bytes) out) ≡ placed 0 (packed 5 header ++ set_bytes ++ node_bytes) out = rw front at (placed_twice 0 (packed 5 header ++ set_bytes) node_bytes out (omega arith)) in
       rw (h, g, f, at, ap Records.header_bits e, first, second, game_parts)
 
 module _ (t : GameFields) (out : List ℕ) where
   -- the answer, and the lent bytes afterwards
-  abbrev pub Leaves : WriteAnswer → List ℕ → Type 0
-  Leaves r after = outcome (write_answered r) (after, tt) ≡ write_game_of t out
+  abbrev pub Leaves : Result ℕ Refusal → List ℕ → Type 0
+  Leaves r after = outcome (answered same r) (after, tt) ≡ write_game_of t out
 
   -- how long the file is, as it is measured
   size_is : {size : ℕ} → size ≡ 5 + length t.set_players + 8 * length t.kinds → size ≡ length (game_bytes t)
   unfolding set_count node_count
   size_is is = is ∙ sym (length_game t)
 
-  module _ {x : Bool} {a : Checked} (tested : x ≡ game_fields_fit t) (checked : a ≡ checked_of 17 x) where
+  module _ {x : Bool} {a : Checked} (tested : x ≡ game_fields_fit t) (checked : a ≡ checked_of Number x) where
     -- fields that do not fit
-    pub game_misfit : {n m : ℕ} → a ≡ Broken n → m ≡ number_of a → Leaves (Refused m) out
+    pub game_misfit : {d : Refusal} → a ≡ Err d → Leaves (Err d) out
     unfolding call rows
-    game_misfit f g = misfit game_fields_fit (λ t. ¬ FieldsFit t) game_bytes t out tested checked f g
+    game_misfit f = misfit game_fields_fit (λ t. ¬ FieldsFit t) game_bytes t out tested checked f
 
     -- fields that fit
-    pub game_fits : a ≡ Fine → game_fields_fit t ≡ true
-    game_fits f = sym tested ∙ fine_holds 17 x checked f
+    pub game_fits : {u : Unit {0}} → a ≡ Ok u → game_fields_fit t ≡ true
+    game_fits f = sym tested ∙ fine_holds Number x checked f
 
-    module _ {b : Checked} (fine : a ≡ Fine) {size : ℕ} (is : size ≡ 5 + length t.set_players + 8 * length t.kinds) (room : b ≡ checked_of 18 (leb size (length out))) where
+    module _ {b : Checked} {u : Unit {0}} (fine : a ≡ Ok u) {size : ℕ} (is : size ≡ 5 + length t.set_players + 8 * length t.kinds) (room : b ≡ checked_of Room (leb size (length out))) where
       -- a buffer too short
-      pub game_short : {k m : ℕ} → b ≡ Broken k → m ≡ number_of b → Leaves (Refused m) out
+      pub game_short : {d : Refusal} → b ≡ Err d → Leaves (Err d) out
       unfolding call rows
-      game_short f g = short game_fields_fit (λ t. ¬ FieldsFit t) game_bytes t out tested checked fine (size_is is) room f g
+      game_short f = short game_fields_fit (λ t. ¬ FieldsFit t) game_bytes t out tested checked fine (size_is is) room f
 
       -- all bytes written
-      pub game_written : b ≡ Fine → {after : List ℕ} → after ≡ placed 0 (game_bytes t) out → Leaves (Written size) after
+      pub game_written : {v : Unit {0}} → b ≡ Ok v → {after : List ℕ} → after ≡ placed 0 (game_bytes t) out → Leaves (Ok size) after
       unfolding call rows
       game_written f all = written game_fields_fit (λ t. ¬ FieldsFit t) game_bytes t out tested checked fine (size_is is) room f all

@@ -1,24 +1,30 @@
 -- The record that is made of each node of the lists that the game writer is given.
-use Rattle.std.specs.Prelude.{ℕ}
+use Rattle.std.specs.Prelude.{ℕ, ◌<◌, length}
 use Rattle.algebra.specs.Arrays.{item, item_z}
 use Rattle.model.specs.Writing.{GameFields}
+use Rattle.records.specs.declared.game_file.Kind.{Kind}
 use Rattle.records.specs.declared.game_file.Payload.{Payload}
 use Rattle.records.specs.declared.game_file.NodeRecord.{NodeRecord}
+use Rattle.records.specs.Records.{kind_of}
+
+-- every node is of one of the three kinds
+abbrev pub KindsFit : GameFields → Type 0
+KindsFit t = (n : ℕ) → n < length t.kinds → item t.kinds n < 3
+
+-- the payload of node n as one of a kind
+unfoldable pub payload_by : GameFields → (n : ℕ) → Kind → Payload
+payload_by t n Kind.Leaf = Payload.Leaf (item_z t.payoffs1 n) (item_z t.payoffs2 n)
+payload_by t n Kind.Decision = Payload.Decision (item t.node_sets n) 0
+payload_by t n Kind.Chance = Payload.Chance (item t.chance_moves n) 0
+payload_by t n Kind.Unknown = Payload.Unknown
 
 -- the payload of node n
 abbrev pub payload_of : GameFields → (n : ℕ) → Payload
-payload_of t n = record {
-  set = item t.node_sets n;
-  moves = item t.chance_moves n;
-  payoff1 = item_z t.payoffs1 n;
-  payoff2 = item_z t.payoffs2 n;
-  padding = 0;
-}
+payload_of t n = payload_by t n (kind_of (item t.kinds n))
 
 -- the record of node n
 abbrev pub node_of : GameFields → (n : ℕ) → NodeRecord
 node_of t n = record {
-  kind = item t.kinds n;
   parent = item t.parents n;
   place = item t.moves n;
   weight = item t.weights n;

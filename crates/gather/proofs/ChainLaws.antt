@@ -12,12 +12,13 @@ use Rattle.algebra.specs.Arrays.{item}
 use Rattle.algebra.specs.Sections.{Held, Apart}
 use Rattle.algebra.proofs.Sections.{held_put, held_still, held_before, held_as, apart_none, apart_set, apart_twice}
 use Rattle.algebra.proofs.Tests.{dec}
-use Rattle.model.specs.Game.{Game, Player, one, two, same_player, player_of, owns}
+use Rattle.model.specs.Game.{Game, Player, one, two, same_player, owns}
 use Rattle.model.specs.Sequences.{leading_number, sequence_count}
 use Rattle.model.proofs.Numbers.{leading_number_lem, sequences_few}
 use Rattle.model.proofs.Tree.{owner}
-use Rattle.loaded.specs.Sections.{section_room, player_section, lead_section, head_section_of, next_section, numbers_room}
+use Rattle.loaded.specs.Sections.{section_room, lead_section, head_section_of, next_section, numbers_room}
 use Rattle.loaded.specs.Sets.{lead_by, first_led, next_led}
+use Rattle.loaded.specs.Players.{owner_in}
 use Rattle.loaded.proofs.Owners.{player_read}
 use Rattle.loaded.proofs.Chains.{led_end, led_here, led_next}
 use Rattle.gather.specs.Numbered.{Numbered}
@@ -41,7 +42,7 @@ sequences_below {g} N p = omega (arith, sequences_few g N.rules p, N.decoded.few
 
 module _ {g : Game} {l : List ℕ} (N : Numbered g l) {h : ℕ} (v : h < g.sets) where
   -- the heads that are read are those of set h's player
-  pub heads_are : {bit heads : ℕ} → bit ≡ item l (player_section + h) → heads ≡ head_section_of (player_of bit) → heads ≡ head_section_of (g.set_player h)
+  pub heads_are : {p : Player} {heads : ℕ} → p ≡ owner_in l h → heads ≡ head_section_of p → heads ≡ head_section_of (g.set_player h)
   heads_are e f = f ∙ ap head_section_of (player_read N.decoded v e)
 
   -- the sequence that is read leads to it

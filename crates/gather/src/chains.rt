@@ -14,7 +14,7 @@ fn link(numbers: &mut [u16], h: usize)
     requires { NumberedIn (λ g. h < g.sets) numbers.old }
     ensures { Apart (head_section_of one) numbers_room numbers.old numbers.new × ((g : Game) → h < g.sets → Numbered g numbers.old → ChainsFrom g (h + 1) numbers.old → ChainsFrom g h numbers.new) }
 {
-    let heads = loaded::head_section(loaded::number(numbers, Section::PLAYER, h));
+    let heads = loaded::owner(numbers, h).head_section();
     let lead = loaded::number(numbers, Section::LEAD, h);
     let next = loaded::number(numbers, heads, lead);
     loaded::put(numbers, Section::NEXT, h, next);
@@ -29,9 +29,7 @@ pub fn chains(numbers: &mut [u16], sets: usize, sequences1: usize, sequences2: u
 {
     loaded::fill(numbers, Section::HEAD1, sequences1, sets);
     loaded::fill(numbers, Section::HEAD2, sequences2, sets);
-    let mut left = sets;
-    while 0 < left {
-        left -= 1;
-        link(numbers, left);
+    for h in (0..sets).rev() {
+        link(numbers, h);
     }
 }

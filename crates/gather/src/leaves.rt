@@ -9,7 +9,7 @@ ghost use Rattle.gather.specs.Gathered.{LeavesBelow, LeavesGathered};
 ghost use Rattle.gather.specs.Gathering.{Added};
 
 use loaded::Section;
-use records::Payload;
+use records::Kind;
 
 // Leaf `n` into place `at`: both players' own sequences and the chance weight.
 fn put_leaf(numbers: &mut [u16], n: usize, at: usize)
@@ -29,7 +29,7 @@ fn add_node(numbers: &mut [u16], n: usize, at: usize) -> usize
     requires { (n ≤ count_limit) × (at ≤ count_limit) × (numbers_room ≤ length numbers.old) }
     ensures { Added (leaf_section one) (head_section_of one) LeavesBelow n at result numbers.old numbers.new }
 {
-    if loaded::number(numbers, Section::KIND, n) as u64 == Payload::LEAF {
+    if Kind::from(loaded::number(numbers, Section::KIND, n) as u64) == Kind::Leaf {
         put_leaf(numbers, n, at);
         return at + 1;
     }
@@ -42,10 +42,8 @@ pub fn leaves(numbers: &mut [u16], nodes: usize) -> usize
     ensures { Apart (leaf_section one) (head_section_of one) numbers.old numbers.new × ((g : Game) → nodes ≡ g.nodes → Numbered g numbers.old → LeavesGathered g result numbers.new) }
 {
     let mut count = 0;
-    let mut n = 0;
-    while n < nodes {
+    for n in 0..nodes {
         count = add_node(numbers, n, count);
-        n += 1;
     }
     count
 }

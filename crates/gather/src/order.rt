@@ -10,14 +10,14 @@ ghost use Rattle.gather.specs.Gathered.{OrderBelow};
 ghost use Rattle.gather.specs.Gathering.{Added};
 
 use loaded::Section;
-use records::Payload;
+use records::Kind;
 
 // The set that begins at node `n`, where one does, into place `at`; the next place that is free.
 fn add_set(numbers: &mut [u16], n: usize, at: usize) -> usize
     requires { (at ≤ n) × NumberedIn (λ g. n < g.nodes) numbers.old }
     ensures { Added order_section (leaf_section one) OrderBelow n at result numbers.old numbers.new }
 {
-    if loaded::number(numbers, Section::KIND, n) as u64 == Payload::DECISION {
+    if Kind::from(loaded::number(numbers, Section::KIND, n) as u64) == Kind::Decision {
         let set = loaded::number(numbers, Section::PAYLOAD, n);
         if loaded::number(numbers, Section::FIRST_NODE, set) == n {
             loaded::put(numbers, Section::ORDER, at, set);
@@ -33,9 +33,7 @@ pub fn order(numbers: &mut [u16], nodes: usize)
     ensures { Apart order_section (leaf_section one) numbers.old numbers.new × ((g : Game) → nodes ≡ g.nodes → Numbered g numbers.old → Held order_section (item (set_order g)) g.sets numbers.new) }
 {
     let mut count = 0;
-    let mut n = 0;
-    while n < nodes {
+    for n in 0..nodes {
         count = add_set(numbers, n, count);
-        n += 1;
     }
 }

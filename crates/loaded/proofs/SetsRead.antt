@@ -1,21 +1,26 @@
 -- The sequences of a set of a loaded game: as the game has them, and where they stand among its player's.
 use Prim.Native.Nat.{ℕ, ◌+◌, ◌≤◌, ◌<◌}
-use mathlib.Core.Path.{◌≡◌, sym, ap, ◌∙◌}
+use mathlib.Core.Path.{◌≡◌, ap, ◌∙◌}
+use mathlib.Core.Bool.{true, false}
 use mathlib.Core.List.{List}
+use denote.Enum.Bare.{sameb}
 use native.Mathlib.Omega.{arith}
 use lib.ListN.{length}
 use lib.Dec.{T}
 use Rattle.algebra.specs.Arrays.{item}
-use Rattle.model.specs.Game.{Game, Player, player_of, owns}
+use Rattle.model.specs.Game.{Game, Player, owns}
 use Rattle.model.specs.Sequences.{leading, sequence_number, leading_number, sequence_count}
 use Rattle.model.specs.Rules.{GameRules}
 use Rattle.model.proofs.Numbers.{moves_block, number_below}
 use Rattle.model.proofs.Tree.{owner, leading_sequence}
-use Rattle.loaded.specs.Sections.{player_section, lead_section, order_section}
+use Rattle.loaded.specs.Sections.{lead_section, order_section}
+use Rattle.loaded.specs.Players.{as_player, owner_in}
 use Rattle.loaded.specs.Sets.{set_order}
 use Rattle.loaded.specs.SetSequences.{set_sequences_in, set_sequences_of}
 use Rattle.loaded.specs.Loaded.{NumbersLoaded}
 use Rattle.loaded.specs.declared.Counts.{Counts}
+use Rattle.loaded.specs.contracts.Player.{the_type}
+use Rattle.loaded.specs.declared.Player as Code
 use Rattle.loaded.specs.declared.SetSequences.{SetSequences}
 use Rattle.loaded.proofs.Owners.{is_owner, not_owner, own_start}
 use Rattle.loaded.proofs.SetOrder.{order_set}
@@ -40,13 +45,13 @@ module _ {g : Game} {c : Counts} {numbers : List ℕ} (L : NumbersLoaded g c num
   pub next_inside : h < g.sets
   next_inside = omega (arith, next_read, order_set g L.rules i l)
 
-  -- whose it is, by its bit as it is read
-  module _ (b : ℕ) (known : b < 2) {r : ℕ} (bit : r ≡ item numbers (player_section + h)) where
-    pub next_his : r ≡ b → T (owns g (player_of b) h)
-    next_his e = is_owner g L.decoded.sets_decoded.players b h known next_inside (sym bit ∙ e)
+  -- whose it is, by its owner as he is read
+  module _ (owner p : Code.Player) (is : as_player owner ≡ owner_in numbers h) where
+    pub next_his : true ≡ sameb the_type owner p → T (owns g (as_player p) h)
+    next_his e = is_owner g L.decoded.sets_decoded.players next_inside owner p is e
 
-    pub next_not_his : ¬ (r ≡ b) → ¬ T (owns g (player_of b) h)
-    next_not_his d = not_owner g L.decoded.sets_decoded.players b h known next_inside (λ e. d (bit ∙ e))
+    pub next_not_his : false ≡ sameb the_type owner p → ¬ T (owns g (as_player p) h)
+    next_not_his e = not_owner g L.decoded.sets_decoded.players next_inside owner p is e
 
 -- Where the sequences of a set stand among so many.
 pub record Stand (count : ℕ) (s : SetSequences) : Type 0 where

@@ -20,5 +20,5 @@ counts_of g = record {
 
 -- a player's side
 unfoldable pub side_of : Counts → Player → Side
-side_of c one = record { player = 0; own = leaf_section one; opponent = leaf_section two; payoffs = payoff_section one; heads = head_section_of one; sequences = c.sequences1 }
-side_of c two = record { player = 1; own = leaf_section two; opponent = leaf_section one; payoffs = payoff_section two; heads = head_section_of two; sequences = c.sequences2 }
+side_of c one = record { own = leaf_section one; opponent = leaf_section two; payoffs = payoff_section one; heads = head_section_of one; sequences = c.sequences1 }
+side_of c two = record { own = leaf_section two; opponent = leaf_section one; payoffs = payoff_section two; heads = head_section_of two; sequences = c.sequences2 }

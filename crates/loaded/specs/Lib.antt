@@ -1,4 +1,5 @@
 pub mod Sections
+pub mod Players
 pub mod Rows
 pub mod Leaves
 pub mod Sets

@@ -4,10 +4,18 @@
 ghost use Rattle.std.specs.Prelude.{◌≡◌, ◌+◌, ◌≤◌, ◌<◌, length, set};
 ghost use Rattle.algebra.specs.Arrays.{item, item_z};
 ghost use Rattle.algebra.specs.Sections.{Held, Apart};
-ghost use Rattle.model.specs.Game.{player_of};
-ghost use Rattle.loaded.specs.Sections.{own_section_of, head_section_of, lead_section};
+ghost use Rattle.model.specs.Game.{player_of, player_number};
+ghost use Rattle.loaded.specs.Sections.{player_section, own_section_of, head_section_of, lead_section};
+ghost use Rattle.loaded.specs.Players.{as_player, owner_in};
 ghost use Rattle.loaded.specs.SetSequences.{set_sequences_in};
 ghost use Rattle.loaded.specs.Counts.{side_of};
+
+// Player 1 or player 2.
+#[derive(Clone, Copy, PartialEq, Eq)]
+pub enum Player {
+    One,
+    Two,
+}
 
 // How much there is of each: nodes, sets, leaves and each player's sequences; and D0.
 #[derive(Clone, Copy)]
@@ -20,11 +28,17 @@ pub struct Counts {
     pub root_weight: u64,
 }
 
-// What one player's best response takes of a loaded game: his bit, where his own sequences and the other's stand by leaf,
-// where his payoffs begin and the first sets that his sequences lead to, and how many sequences he has.
+// A loaded game, as it is lent. Both are slices and not arrays: an array type would ask more of callers than the room that contracts ask for.
+#[derive(Clone, Copy)]
+pub struct LoadedGame<'a> {
+    pub numbers: &'a [u16],
+    pub payoffs: &'a [i16],
+    pub counts: Counts,
+}
+
+// What one player's best response takes of a loaded game: where his own sequences and the other's stand by leaf, where his payoffs begin and the first sets that his sequences lead to, and how many sequences he has.
 #[derive(Clone, Copy)]
 pub struct Side {
-    pub player: usize,
     pub own: usize,
     pub opponent: usize,
     pub payoffs: usize,
@@ -40,38 +54,76 @@ pub struct SetSequences {
     pub lead: usize,
 }
 
-impl Counts {
-    // The side of player 0 or 1.
-    pub fn side(self, player: usize) -> Side
-        requires { player < 2 }
-        ensures { result ≡ side_of self (player_of player) }
+// The player with a bit: 0 is player 1, anything else player 2.
+impl From<usize> for Player {
+    ghost from_gives = { λ bit player. as_player player ≡ player_of bit };
+
+    fn from(bit: usize) -> Player {
+        match bit {
+            0 => Player::One,
+            _ => Player::Two,
+        }
+    }
+}
+
+impl Player {
+    // The number that names him, 1 or 2.
+    pub fn number(self) -> u64
+        ensures { result ≡ player_number (as_player self) }
     {
-        if player == 0 {
-            return Side {
-                player: 0,
+        match self {
+            Player::One => 1,
+            Player::Two => 2,
+        }
+    }
+
+    // Where the numbers of his own sequences by node begin.
+    pub fn own_section(self) -> usize
+        ensures { result ≡ own_section_of (as_player self) }
+    {
+        match self {
+            Player::One => Section::OWN1,
+            Player::Two => Section::OWN2,
+        }
+    }
+
+    // Where the first sets that his sequences lead to begin.
+    pub fn head_section(self) -> usize
+        ensures { result ≡ head_section_of (as_player self) }
+    {
+        match self {
+            Player::One => Section::HEAD1,
+            Player::Two => Section::HEAD2,
+        }
+    }
+}
+
+impl Counts {
+    // A player's side.
+    pub fn side(self, player: Player) -> Side
+        ensures { result ≡ side_of self (as_player player) }
+    {
+        match player {
+            Player::One => Side {
                 own: Section::LEAF1,
                 opponent: Section::LEAF2,
                 payoffs: Section::PAYOFFS1,
                 heads: Section::HEAD1,
                 sequences: self.sequences1,
-            };
-        }
-        Side {
-            player: 1,
-            own: Section::LEAF2,
-            opponent: Section::LEAF1,
-            payoffs: Section::PAYOFFS2,
-            heads: Section::HEAD2,
-            sequences: self.sequences2,
+            },
+            Player::Two => Side {
+                own: Section::LEAF2,
+                opponent: Section::LEAF1,
+                payoffs: Section::PAYOFFS2,
+                heads: Section::HEAD2,
+                sequences: self.sequences2,
+            },
         }
     }
 }
 
 // Where each section begins.
-#[derive(Clone, Copy)]
-pub struct Section {
-    pub at: usize,
-}
+pub struct Section;
 
 impl Section {
     // The places of a section.
@@ -135,36 +187,12 @@ impl Section {
     pub const PAYOFFS: usize = 2 * Section::ROOM;
 }
 
-// Where the numbers of a player's own sequences by node begin.
-pub fn own_section(player: usize) -> usize
-    requires { player < 2 }
-    ensures { result ≡ own_section_of (player_of player) }
-{
-    if player == 0 {
-        Section::OWN1
-    } else {
-        Section::OWN2
-    }
-}
-
-// Where the first sets that a player's sequences lead to begin.
-pub fn head_section(player: usize) -> usize
-    requires { player < 2 }
-    ensures { result ≡ head_section_of (player_of player) }
-{
-    if player == 0 {
-        Section::HEAD1
-    } else {
-        Section::HEAD2
-    }
-}
-
 // The number at place `i` of the section that begins at `section`.
 pub fn number(numbers: &[u16], section: usize, i: usize) -> usize
     requires { section + i < length numbers.now }
     ensures { (result ≡ item numbers.now (section + i)) × (result < 65536) }
 {
-    numbers[section + i] as usize
+    usize::from(numbers[section + i])
 }
 
 // Puts a number there.
@@ -180,14 +208,11 @@ pub fn fill(numbers: &mut [u16], section: usize, count: usize, value: usize)
     requires { (section + count ≤ length numbers.old) × (value < 65536) }
     ensures { Held section (λ _. value) count numbers.new × Apart section (section + count) numbers.old numbers.new }
 {
-    let mut i = 0;
-    while i < count {
-        put(numbers, section, i, value);
-        i += 1;
-    }
+    numbers[section..section + count].fill(value as u16);
 }
 
 // The payoff at place `i` of the section that begins at `section`.
+// Not one generic function with `number`, which would be no plainer: a number is read as a usize and has a bound, a payoff stays an i16.
 pub fn payoff(payoffs: &[i16], section: usize, i: usize) -> i16
     requires { section + i < length payoffs.now }
     ensures { result ≡ item_z payoffs.now (section + i) }
@@ -213,4 +238,12 @@ pub fn set_sequences(numbers: &[u16], h: usize) -> SetSequences
         moves: number(numbers, Section::MOVES, h),
         lead: number(numbers, Section::LEAD, h),
     }
+}
+
+// Whose set `h` is.
+pub fn owner(numbers: &[u16], h: usize) -> Player
+    requires { player_section + h < length numbers.now }
+    ensures { as_player result ≡ owner_in numbers.now h }
+{
+    Player::from(number(numbers, Section::PLAYER, h))
 }

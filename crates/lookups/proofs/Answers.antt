@@ -12,7 +12,7 @@ use Rattle.model.specs.Call.{given, refused}
 use Rattle.model.specs.Writing.{payoff_field, player_field, set_field, moves_field}
 use Rattle.model.specs.Calls.CheckGame as CheckGame
 use Rattle.model.specs.Calls.SetEntry as Set
-use Rattle.model.specs.Calls.NodeRecord.{Place, NodeRecord, leaf, decision, chance, by_kind, record_of}
+use Rattle.model.specs.Calls.NodeRecord.{Place, leaf, decision, chance, by_kind, record_of}
 use Rattle.model.proofs.Checks.{game_named}
 use Rattle.checks.proofs.NoBuffer.{answer_refused, answer_given}
 use Rattle.checks.proofs.Files.{game_refuses, game_fine}
@@ -22,9 +22,11 @@ use Rattle.records.specs.declared.game_file.NodeRecord as Read
 use Rattle.records.specs.Records.{SetRead, NodeRead}
 use Rattle.records.proofs.Records.{set_player_lem, node_set_lem, node_moves_lem, node_payoff1, node_payoff2}
 use Rattle.records.proofs.Headers.{header_nodes, header_sets, header_weight}
-use Rattle.game.specs.declared.LoadAnswer.{LoadAnswer}
-use Rattle.game.specs.declared.LoadAnswer.TheVariants as Load
-use Rattle.game.specs.Load.{LoadedBy, load_refusal_of}
+use Rattle.std.specs.Prelude.{Result, Err}
+use Rattle.checks.specs.declared.Refusal.{Refusal}
+use Rattle.checks.specs.Answers.{refusal_number}
+use Rattle.loaded.specs.declared.Counts.{Counts}
+use Rattle.game.specs.Load.{LoadedBy}
 use Rattle.game.proofs.Loads.{load_refused}
 use Rattle.game.proofs.Refusals.{Opened, RefusedWith}
 use Rattle.lookups.specs.Records.{record_read}
@@ -49,24 +51,18 @@ unfolding player_field
 set_is_read game {i} r R e = rw (← e, set_player_lem game i r R, R.moves)
 
 -- the number of its refusal
-pub load_refuses : (game : List ℕ) {a : LoadAnswer} {k r : ℕ} {numbers : List ℕ} {payoffs : List ℤ} → LoadedBy game a numbers payoffs → a ≡ Load.Refused k → r ≡ load_refusal_of a → RefusedWith game r
-load_refuses game L f g =
-    let given = load_refused game L.answer f g in
+pub load_refuses : (game : List ℕ) {a : Result Counts Refusal} {d : Refusal} {numbers : List ℕ} {payoffs : List ℤ} → LoadedBy game a numbers payoffs → a ≡ Err d → RefusedWith game (refusal_number d)
+load_refuses game L f =
+    let given = load_refused game L.answer f in
     record { number = given.0; some = given.1 }
 
 -- the own sequence that leads to set i, where i is h
 pub sequence_is_read : (game : List ℕ) {i h k : ℕ} → k ≡ leading_number (game_of game) i → i ≡ h → k ≡ leading_number (game_of game) h
 sequence_is_read game r e = r ∙ ap (leading_number (game_of game)) e
 
--- the first kind, where the payoffs are a and b
-pub first_kind : (k : ℕ) (p : Place) {a b x y : ℤ} (d c : NodeRecord) → k ≡ 0 → x ≡ a → y ≡ b → leaf p x y ≡ by_kind k (leaf p a b) d c
-first_kind k p d c e first second = rw (e, first, second)
-
--- a kind past the first two
-pub last_kind : (k : ℕ) (l d c : NodeRecord) → ¬ (k ≡ 0) → ¬ (k ≡ 1) → c ≡ by_kind k l d c
-last_kind zero l d c z o = absurd (z refl)
-last_kind (suc zero) l d c z o = absurd (o refl)
-last_kind (suc (suc k)) l d c z o = refl
+-- a leaf with equal payoffs
+pub leaf_given : (p : Place) {a b x y : ℤ} → x ≡ a → y ≡ b → leaf p x y ≡ leaf p a b
+leaf_given p first second = rw (first, second)
 
 -- a node has only what its kind has
 only_its_own : (k : ℕ) (p : Place) (a b : ℤ) (h m : ℕ) → k < 3 → by_kind k (leaf p (cond (eqb k 0) a (pos 0)) (cond (eqb k 0) b (pos 0))) (decision p (cond (eqb k 1) h 0)) (chance p (cond (eqb k 2) m 0)) ≡ by_kind k (leaf p a b) (decision p h) (chance p m)

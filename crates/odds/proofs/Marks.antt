@@ -7,7 +7,7 @@ use native.Mathlib.Omega.{arith}
 use native.Mathlib.Nat as NatL
 use lib.ListN.{length, set, length-set}
 use lib.Seq.{get_or-set_same}
-use lib.Dec.{T, ltb, lt→ltb}
+use lib.Dec.{T, ltb, eqb, lt→ltb}
 use mir.Facts.{and_yes, yes_and}
 use Rattle.algebra.specs.Arrays.{item}
 use Rattle.algebra.specs.Bounded.{total_to, all_to, implies}
@@ -22,8 +22,9 @@ use Rattle.model.specs.Rules.{GameRules}
 use Rattle.model.specs.Sheet.{Odds, odds_total, no_zero_odds, odds_given}
 use Rattle.model.proofs.Sheets.{no_zero_extended, arrives_empty}
 use Rattle.model.proofs.Tree.{player_refl}
-use Rattle.checks.specs.declared.Checked.TheVariants.{Fine, Broken}
-use Rattle.checks.specs.Checked.{checked_of}
+use Rattle.std.specs.Prelude.{Ok, Err}
+use Rattle.checks.specs.declared.Refusal.TheVariants.{NoOdds}
+use Rattle.checks.specs.Answers.{checked_of}
 use Rattle.checks.proofs.Passes.{Passed, passed_none, passed_more, passed_not, passed_all}
 use Rattle.loaded.specs.declared.Counts.{Counts}
 use Rattle.loaded.specs.Sets.{set_order}
@@ -46,7 +47,7 @@ mark_small false before l = omega arith
 -- A set whose sequences are marked after the mark of the one that leads to it.
 module _ {set : SetSequences} {x marks after : List ℕ} {before : ℕ} (is : before ≡ item marks set.lead) (held : Held set.start (λ m. cond (ltb 0 (item x (set.start + m))) before 0) set.moves after) (apart : Apart set.start (set.start + set.moves) marks after) where
   -- that one is not marked: nothing is asked
-  pub set_unmarked : before ≡ 0 → SetMarked set x true marks after
+  pub set_unmarked : before ≡ 0 → SetMarked set x (eqb before 0) marks after
   unfolding implies
   set_unmarked e = record { answer = rw (← is, e); marked = held_as _ held (λ m v. ap (λ (k : ℕ). cond (ltb 0 (item x (set.start + m))) k 0) is); apart = apart }
 
@@ -131,18 +132,15 @@ module _ {g : Game} (R : GameRules g) (p : Player) (odds : Odds) {x : List ℕ} 
         M.apart
 
   -- it is the player's
-  pub next_own : {h : ℕ} → h ≡ next → T (owns g p h) → {set : SetSequences} → set ≡ set_sequences_of g h → {r : Bool} {after : List ℕ} → SetMarked set x r marks after → NextMarked g odds p n r after
-  next_own {h} e o {set} is {r} {after} M =
-      let mine : T (owns g p next) = subst (λ (k : ℕ). T (owns g p k)) e o in
-      let done : SetMarked (set_sequences_of g next) x r marks after = subst (λ (s : SetSequences). SetMarked s x r marks after) (is ∙ ap (set_sequences_of g) e) M in
-      record { answer = given_there mine done; marks = marked_there mine done }
+  pub next_own : T (owns g p next) → {set : SetSequences} → set ≡ set_sequences_of g next → {r : Bool} {after : List ℕ} → SetMarked set x r marks after → NextMarked g odds p n r after
+  next_own o {set} is {r} {after} M =
+      let done : SetMarked (set_sequences_of g next) x r marks after = subst (λ (s : SetSequences). SetMarked s x r marks after) is M in
+      record { answer = given_there o done; marks = marked_there o done }
 
   -- it is the other's
-  pub next_other : {h : ℕ} → h ≡ next → ¬ T (owns g p h) → NextMarked g odds p n true marks
+  pub next_other : ¬ T (owns g p next) → NextMarked g odds p n true marks
   unfolding given_at implies
-  next_other {h} e o =
-      let other : ¬ T (owns g p next) = subst (λ (k : ℕ). ¬ T (owns g p k)) e o in
-      record { answer = rw (not→false (owns g p next) other); marks = order_skip g R p (mark_of g odds) v K other }
+  next_other o = record { answer = rw (not→false (owns g p next) o); marks = order_skip g R p (mark_of g odds) v K o }
 
 -- check 20 at every place of the order is check 20 at every set
 given_in_order : {g : Game} → GameRules g → (odds : Odds) (p : Player) → all_to g.sets (λ i. given_at g odds p (item (set_order g) i)) ≡ player_given_of g odds p
@@ -172,33 +170,28 @@ module _ (g : Game) (odds : Odds) (p : Player) where
 
   module _ (R : GameRules g) where
     -- one does not
-    pub marked_not : {i : ℕ} {r : Bool} {after : List ℕ} → i < g.sets → NextMarked g odds p i r after → r ≡ false → Broken 20 ≡ checked_of 20 (player_given_of g odds p)
-    marked_not {i} {r} l N t = passed_not _ g.sets 20 i r l N.answer t ∙ ap (checked_of 20) (given_in_order R odds p)
+    pub marked_not : {i : ℕ} {r : Bool} {after : List ℕ} → i < g.sets → NextMarked g odds p i r after → r ≡ false → Err NoOdds ≡ checked_of NoOdds (player_given_of g odds p)
+    marked_not {i} {r} l N t = passed_not _ g.sets NoOdds i r l N.answer t ∙ ap (checked_of NoOdds) (given_in_order R odds p)
 
     -- all do
-    pub marked_all : {i : ℕ} {marks : List ℕ} → PassedMarked g odds p i marks → g.sets ≤ i → Fine ≡ checked_of 20 (player_given_of g odds p)
-    marked_all {i} P l = passed_all _ _ 20 i P.passed l ∙ ap (checked_of 20) (given_in_order R odds p)
+    pub marked_all : {i : ℕ} {marks : List ℕ} → PassedMarked g odds p i marks → g.sets ≤ i → Ok tt ≡ checked_of NoOdds (player_given_of g odds p)
+    marked_all {i} P l = passed_all _ _ NoOdds i P.passed l ∙ ap (checked_of NoOdds) (given_in_order R odds p)
 
 -- one place of the order is asked for
-pub asked_at : {sets player : ℕ} {numbers x marks now : List ℕ} → AllAsked sets player numbers x marks → length now ≡ length marks → {i : ℕ} → i < sets → OrderAsked i player numbers x now
+pub asked_at : {sets : ℕ} {numbers x marks now : List ℕ} → AllAsked sets numbers x marks → length now ≡ length marks → {i : ℕ} → i < sets → OrderAsked i numbers x now
 asked_at A e l = record {
-  game = A.game;
-  counts = A.counts;
-  loaded = A.loaded;
-  inside = omega (arith, l, A.sets_are);
-  known = A.known;
+  place = record { game = A.game; counts = A.counts; loaded = A.loaded; inside = omega (arith, l, A.sets_are) };
   in_odds = A.in_odds;
   in_marks = omega (arith, e, A.in_marks);
 }
 
 -- all of them are
-pub all_asked : {c : Counts} {numbers x marks : List ℕ} → LoadedIn c numbers → (b : ℕ) → b < 2 → count_limit ≤ length x → count_limit ≤ length marks → AllAsked c.sets b numbers x marks
-all_asked {c} L b k l m = record {
+pub all_asked : {c : Counts} {numbers x marks : List ℕ} → LoadedIn c numbers → count_limit ≤ length x → count_limit ≤ length marks → AllAsked c.sets numbers x marks
+all_asked {c} L l m = record {
   game = L.game;
   counts = c;
   loaded = L.loaded;
   sets_are = (counted L.loaded.counts_are).sets_are;
-  known = k;
   in_odds = l;
   in_marks = m;
 }

@@ -12,6 +12,7 @@ use Rattle.loaded.specs.declared.SetSequences.{SetSequences}
 use Rattle.loaded.specs.InOrder.{InOrder}
 use Rattle.loaded.specs.Loaded.{NumbersLoaded}
 use Rattle.loaded.specs.Sets.{set_order}
+use Rattle.sheets.specs.OwnSets.{OrderPlace}
 
 -- the mark of a sequence: 1 where it has no zero odds
 unfoldable pub mark_of : Game → Odds → Sequence → ℕ
@@ -43,22 +44,17 @@ pub record NextMarked (g : Game) (odds : Odds) (p : Player) (i : ℕ) (r : Bool)
   pub answer : r ≡ given_at g odds p (item (set_order g) i)
   pub marks : InOrder g p (mark_of g odds) (i + 1) after
 
--- So many sets of some game that is loaded, and for as many sequences as a player can have a place for odds and for marks.
-pub record AllAsked (sets player : ℕ) (numbers x marks : List ℕ) : Type 0 where
+-- All sets of some game that is loaded, and for as many sequences as a player can have a place for odds and for marks.
+pub record AllAsked (sets : ℕ) (numbers x marks : List ℕ) : Type 0 where
   pub game : Game
   pub counts : Counts
   pub loaded : NumbersLoaded game counts numbers
   pub sets_are : sets ≡ game.sets
-  pub known : player < 2
   pub in_odds : count_limit ≤ length x
   pub in_marks : count_limit ≤ length marks
 
 -- the same with one place of the order
-pub record OrderAsked (i player : ℕ) (numbers x marks : List ℕ) : Type 0 where
-  pub game : Game
-  pub counts : Counts
-  pub loaded : NumbersLoaded game counts numbers
-  pub inside : i < game.sets
-  pub known : player < 2
+pub record OrderAsked (i : ℕ) (numbers x marks : List ℕ) : Type 0 where
+  pub place : OrderPlace i numbers
   pub in_odds : count_limit ≤ length x
   pub in_marks : count_limit ≤ length marks

@@ -22,15 +22,18 @@ use Rattle.model.proofs.Checks.{game_named, game_rules}
 use Rattle.model.proofs.Budget.{game_limits}
 use Rattle.records.specs.declared.plan_file.Denominators.{Denominators}
 use Rattle.pair.specs.declared.PairHeader.{PairHeader}
-use Rattle.plan.specs.declared.PlanAnswer.{PlanAnswer}
-use Rattle.plan.specs.declared.PlanAnswer.TheVariants as Plan
-use Rattle.pair.specs.declared.PairAnswer.{PairAnswer}
-use Rattle.pair.specs.declared.PairAnswer.TheVariants as Pair
+use Rattle.std.specs.Prelude.{Result, Ok, Err}
+use Rattle.model.specs.Call.{answer_of}
+use Rattle.model.specs.Exported.{same}
+use Rattle.checks.specs.declared.Refusal.{Refusal}
+use Rattle.checks.specs.Answers.{refusal_number, answered}
+use Rattle.checks.proofs.Chains.{number_some}
+use Rattle.checks.proofs.AnswerLaws.{gives, refuses, given_is, refused_is}
 use Rattle.records.specs.PlanRecords.{denominators_of}
 use Rattle.plan.specs.Loaded.{SequencesCounted}
 use Rattle.plan.specs.Weights.{weight_by_number}
-use Rattle.plan.specs.Refusals.{plan_refusal, plan_answer, plan_refusal_of, weights_after}
-use Rattle.pair.specs.Refusals.{pair_answer, pair_refusal_of}
+use Rattle.plan.specs.Refusals.{plan_refusal, weights_after}
+use Rattle.pair.specs.Refusals.{pair_header}
 use Rattle.plan.proofs.Refusals.{Counted, counted, few_sequences, room}
 
 module _ (game plan : List ℕ) where
@@ -57,23 +60,17 @@ module _ (game plan : List ℕ) where
   plan_decides e = joined ∙ rw e
 
   -- a plan that fits an accepted game
-  pub pair_fits_as : {a : PlanAnswer} {c : Counts} {d : Denominators} → game_refusal game ≡ 0 → c ≡ counts_of (game_of game) → a ≡ plan_answer (plan_refusal game plan) plan → a ≡ Plan.Fits d → Pair.Fits (record { counts = c; denominators = d }) ≡ pair_answer (pair_refusal game plan) game plan
-  pair_fits_as {c = c} {d} none are e f = rw (plan_decides none) (go (plan_refusal game plan) (sym f ∙ e))
-    where
-      go : (k : ℕ) → Plan.Fits d ≡ plan_answer k plan → Pair.Fits (record { counts = c; denominators = d }) ≡ pair_answer k game plan
-      go zero e = let same : d ≡ denominators_of plan = cc in λ i. Pair.Fits (record { counts = are i; denominators = same i })
-      go (suc j) e = let z : ◌≡◌ {A = ℕ} 0 1 = cc in absurd (omega arith)
+  pub pair_fits_as : {a : Result Denominators Refusal} {c : Counts} {d : Denominators} → game_refusal game ≡ 0 → c ≡ counts_of (game_of game) → answered same a ≡ answer_of (plan_refusal game plan) (denominators_of plan) → a ≡ Ok d → answered same (Ok (record { counts = c; denominators = d })) ≡ answer_of (pair_refusal game plan) (pair_header game plan)
+  pair_fits_as {c = c} {d} none are e f =
+      let p = gives same (plan_refusal game plan) (denominators_of plan) e f in
+      given_is same (pair_refusal game plan) (pair_header game plan) (record { counts = c; denominators = d }) (plan_decides none ∙ p.0) (λ i. record { counts = are i; denominators = p.1 i })
 
-  -- the number of a plan's refusal
-  pub plan_refused_with : {a : PlanAnswer} {k r : ℕ} → a ≡ plan_answer (plan_refusal game plan) plan → a ≡ Plan.Refused k → r ≡ plan_refusal_of a → (r ≡ plan_refusal game plan) × ¬ (r ≡ 0)
-  plan_refused_with {a} {k} {r} e f g = go (plan_refusal game plan) refl (sym f ∙ e)
-    where
-      go : (n : ℕ) → plan_refusal game plan ≡ n → Plan.Refused k ≡ plan_answer n plan → (r ≡ plan_refusal game plan) × ¬ (r ≡ 0)
-      go zero m e = let z : ◌≡◌ {A = ℕ} 0 1 = cc in absurd (omega arith)
-      go (suc n) m e =
-          let same : k ≡ suc n = cc in
-          let is : r ≡ k = g ∙ ap plan_refusal_of f in
-          (is ∙ same ∙ sym m, λ z. omega (arith, is, same))
+  -- one that does not, or a game that is refused
+  pub plan_refused_with : {a : Result Denominators Refusal} {d : Refusal} → answered same a ≡ answer_of (plan_refusal game plan) (denominators_of plan) → a ≡ Err d → refusal_number d ≡ plan_refusal game plan
+  plan_refused_with e f = sym (refuses same (plan_refusal game plan) (denominators_of plan) e f)
+
+  pub pair_refused_as : (d : Refusal) → refusal_number d ≡ pair_refusal game plan → answered same (Err d) ≡ answer_of (pair_refusal game plan) (pair_header game plan)
+  pair_refused_as d n = refused_is same (pair_refusal game plan) (pair_header game plan) d (sym n)
 
   -- what is known of a pair that fits
   pub record PairOpened (h : PairHeader) : Type 0 where
@@ -82,34 +79,24 @@ module _ (game plan : List ℕ) where
     pub counts : h.counts ≡ counts_of (game_of game)
     pub denominators : h.denominators ≡ denominators_of plan
 
-  pub pair_opened : {a : PairAnswer} {h : PairHeader} → a ≡ pair_answer (pair_refusal game plan) game plan → a ≡ Pair.Fits h → PairOpened h
-  pair_opened {a} {h} e f = go (pair_refusal game plan) refl (sym f ∙ e)
+  pub opened_of : {h : PairHeader} → pair_refusal game plan ≡ 0 → h ≡ pair_header game plan → PairOpened h
+  opened_of none is = record {
+    none = none;
+    game_none = game_too (game_refusal game) refl none;
+    counts = ap (λ (x : PairHeader). x.counts) is;
+    denominators = ap (λ (x : PairHeader). x.denominators) is;
+  }
     where
       game_too : (k : ℕ) → k ≡ game_refusal game → pair_refusal game plan ≡ 0 → k ≡ 0
       game_too zero m e = refl
       game_too (suc k) m e = absurd (omega (arith, sym (game_refused m (λ z. omega arith)) ∙ e))
 
-      go : (k : ℕ) → pair_refusal game plan ≡ k → Pair.Fits h ≡ pair_answer k game plan → PairOpened h
-      go zero k e =
-          let same : h ≡ record { counts = counts_of (game_of game); denominators = denominators_of plan } = cc in
-          record {
-            none = k;
-            game_none = game_too (game_refusal game) refl k;
-            counts = ap (λ (x : PairHeader). x.counts) same;
-            denominators = ap (λ (x : PairHeader). x.denominators) same;
-          }
-      go (suc n) k e = let z : ◌≡◌ {A = ℕ} 0 1 = cc in absurd (omega arith)
+  pub pair_opened : {a : Result PairHeader Refusal} {h : PairHeader} → answered same a ≡ answer_of (pair_refusal game plan) (pair_header game plan) → a ≡ Ok h → PairOpened h
+  pair_opened e f = let (none, is) = gives same (pair_refusal game plan) (pair_header game plan) e f in opened_of none is
 
   -- the number of a pair's refusal
-  pub pair_refused_with : {a : PairAnswer} {k r : ℕ} → a ≡ pair_answer (pair_refusal game plan) game plan → a ≡ Pair.Refused k → r ≡ pair_refusal_of a → (r ≡ pair_refusal game plan) × ¬ (r ≡ 0)
-  pair_refused_with {a} {k} {r} e f g = go (pair_refusal game plan) refl (sym f ∙ e)
-    where
-      go : (n : ℕ) → pair_refusal game plan ≡ n → Pair.Refused k ≡ pair_answer n game plan → (r ≡ pair_refusal game plan) × ¬ (r ≡ 0)
-      go zero m e = let z : ◌≡◌ {A = ℕ} 0 1 = cc in absurd (omega arith)
-      go (suc n) m e =
-          let same : k ≡ suc n = cc in
-          let is : r ≡ k = g ∙ ap pair_refusal_of f in
-          (is ∙ same ∙ sym m, λ z. omega (arith, is, same))
+  pub pair_refused_with : {a : Result PairHeader Refusal} {d : Refusal} → answered same a ≡ answer_of (pair_refusal game plan) (pair_header game plan) → a ≡ Err d → (refusal_number d ≡ pair_refusal game plan) × ¬ (refusal_number d ≡ 0)
+  pair_refused_with {d = d} e f = (sym (refuses same (pair_refusal game plan) (pair_header game plan) e f), number_some d)
 
 -- the arrays of a pair that fits are filled
 pub pair_over : (game plan : List ℕ) {h : PairHeader} → PairOpened game plan h → (p : Player) {x : List ℕ} (l : List ℕ) → x ≡ weights_after (pair_refusal game plan) game plan p l → x ≡ over (weight_by_number (game_of game) plan p) (sequence_count (game_of game) p) l

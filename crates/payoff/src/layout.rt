@@ -22,13 +22,14 @@ fn sorted_rows(
     requires { RowsAsked from1 from2 counts numbers.now sorted.old bounds.old }
     ensures { RowsIn from1 from2 counts numbers.now result sorted.new bounds.new }
 {
-    let leaves = counts.leaves;
-    let sequences1 = counts.sequences1;
-    let sequences2 = counts.sequences2;
-    let first = &numbers[from1..];
-    let second = &numbers[from2..];
     sorting::pairs::rows(
-        leaves, sequences1, sequences2, first, second, sorted, bounds,
+        counts.leaves,
+        counts.sequences1,
+        counts.sequences2,
+        &numbers[from1..],
+        &numbers[from2..],
+        sorted,
+        bounds,
     )
 }
 

@@ -30,11 +30,9 @@ pub fn leaf_sum(
     ensures { result ≡ leaf_sum_of sorted.now (section chance_section numbers.now) (section from payoffs.now) start (end - start) }
 {
     let mut sum: i64 = 0;
-    let mut i = start;
-    while i < end {
+    for i in start..end {
         let leaf = item(sorted, i);
         sum = added(sum, leaf_term(numbers, payoffs, from, leaf));
-        i += 1;
     }
     sum
 }

@@ -18,8 +18,9 @@ use Rattle.model.proofs.Bits.{field_fits}
 use Rattle.model.proofs.Budget.{plan_limits}
 use Rattle.model.proofs.Numbers.{moves_block, number_below}
 use Rattle.model.proofs.Tree.{leading_sequence}
-use Rattle.checks.specs.declared.Checked.{Checked}
-use Rattle.checks.specs.Checked.{checked_of}
+use Rattle.checks.specs.declared.Refusal.TheVariants.{PlanUnfit}
+use Rattle.checks.specs.Answers.{checked_of}
+use Rattle.checks.proofs.Chains.{Checked}
 use Rattle.loaded.proofs.Weights.{weight_at_lem}
 use Rattle.plan.specs.Weights.{weights_from, weight_by_number}
 use Rattle.loaded.specs.Weights.{plan_by_number, pair_by_number}
@@ -80,5 +81,5 @@ module _ (g : Game) (rules : GameRules g) (plan : List ℕ) {x y : List ℕ} (he
   same_pair_fits = rw (plan_fits one held1, plan_fits two held2)
 
   -- its answer is the file's
-  pub pair_fits : {r : Checked} → r ≡ checked_of 16 (pair_fits_of g (pair_by_number g (item x) (item y))) → r ≡ checked_of 16 (pair_fits_of g (plan_pair_of g plan))
-  pair_fits e = e ∙ ap (checked_of 16) same_pair_fits
+  pub pair_fits : {r : Checked} → r ≡ checked_of PlanUnfit (pair_fits_of g (pair_by_number g (item x) (item y))) → r ≡ checked_of PlanUnfit (pair_fits_of g (plan_pair_of g plan))
+  pair_fits e = e ∙ ap (checked_of PlanUnfit) same_pair_fits

@@ -1,12 +1,11 @@
 -- Checks 14 and 15 by the number of moves and by a header that was read.
 use Prim.Native.Nat.{ℕ, ◌+◌, ◌*◌, ◌-◌, ◌/◌, ◌≤◌}
-use mathlib.Core.Path.{◌≡◌, refl, ◌∙◌}
-use mathlib.Core.Bool.{Bool, true, false, ◌&&◌}
+use mathlib.Core.Path.{◌≡◌}
+use mathlib.Core.Bool.{◌&&◌}
 use mathlib.Core.List.{List}
 use native.Mathlib.Omega.{arith}
 use lib.ListN.{length}
 use lib.Dec.{T, eqb}
-use borrow.Author.Tests.{ne_eqb}
 use Rattle.model.specs.Bits.{field}
 use Rattle.model.specs.Limits.{weight_limit}
 use Rattle.model.specs.Game.{Game, one, two}
@@ -14,9 +13,6 @@ use Rattle.model.specs.Plan.{plan_moves, weight_bit, plan_pair_of}
 use Rattle.model.specs.PlanChecks.{plan_length, plan_has_length, filling, plan_well_formed}
 use Rattle.model.proofs.Bits.{field_fits}
 use Rattle.model.proofs.PlanRules.{plan_length_iff}
-use Rattle.checks.specs.declared.Checked.TheVariants.{Fine, Broken}
-use Rattle.checks.specs.Checked.{checked_of}
-use Rattle.checks.proofs.Chains.{is_fine, is_broken}
 use Rattle.records.specs.declared.plan_file.PlanHeader.{PlanHeader}
 use Rattle.records.specs.PlanRecords.{denominators_of, plan_header_of}
 use Rattle.plan.specs.Header.{header_right_of}
@@ -32,26 +28,9 @@ module _ (g : Game) (plan : List ℕ) (moves : ℕ) (e : moves ≡ plan_moves g)
   length_is t = rw e ((plan_length_iff g plan).holds t)
 
   -- check 15 is that of the header and of the filling
-  well_formed_is : (h : PlanHeader) → h ≡ plan_header_of plan → plan_well_formed g plan ≡ (header_right_of h && eqb (field plan (32 + 12 * moves) (8 * length plan - (32 + 12 * moves))) 0)
+  pub well_formed_is : (h : PlanHeader) → h ≡ plan_header_of plan → plan_well_formed g plan ≡ (header_right_of h && eqb (field plan (32 + 12 * moves) (8 * length plan - (32 + 12 * moves))) 0)
   unfolding plan_well_formed header_right_of plan_header_of denominators_of filling weight_bit
   well_formed_is h q = rw (q, e)
-
-  module _ (h : PlanHeader) (q : h ≡ plan_header_of plan) where
-    -- both are right
-    pub formed_fine : header_right_of h ≡ true → field plan (32 + 12 * moves) (8 * length plan - (32 + 12 * moves)) ≡ 0 → Fine ≡ checked_of 15 (plan_well_formed g plan)
-    formed_fine a b = is_fine 15 (well_formed_is h q ∙ rw (a, b))
-
-    -- the filling is not
-    pub formed_filled : ¬ (field plan (32 + 12 * moves) (8 * length plan - (32 + 12 * moves)) ≡ 0) → Broken 15 ≡ checked_of 15 (plan_well_formed g plan)
-    formed_filled b = is_broken 15 (well_formed_is h q ∙ last_fails (header_right_of h) _ (ne_eqb _ _ b))
-      where
-        last_fails : (a b : Bool) → b ≡ false → (a && b) ≡ false
-        last_fails true b z = z
-        last_fails false b z = refl
-
-    -- the header is not
-    pub formed_wrong : header_right_of h ≡ false → Broken 15 ≡ checked_of 15 (plan_well_formed g plan)
-    formed_wrong a = is_broken 15 (well_formed_is h q ∙ rw a)
 
 -- the denominators of a header that was read are the plans'
 pub header_d1 : (g : Game) (plan : List ℕ) (h : PlanHeader) → h ≡ plan_header_of plan → h.denominators.d1 ≡ (plan_pair_of g plan one).denominator

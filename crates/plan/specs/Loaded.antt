@@ -1,8 +1,8 @@
 -- What checks 14 to 16 take of a loaded game.
-use Rattle.std.specs.Prelude.{ℕ, ◌+◌, ◌≤◌, ◌<◌, List, length}
+use Rattle.std.specs.Prelude.{ℕ, ◌+◌, ◌≤◌, List, length}
 use Rattle.algebra.specs.Sections.{Held}
 use Rattle.model.specs.Limits.{count_limit}
-use Rattle.model.specs.Game.{Game, player_of}
+use Rattle.model.specs.Game.{Game, Player}
 use Rattle.model.specs.Sequences.{leading_number, sequence_count}
 use Rattle.model.specs.Rules.{GameRules}
 use Rattle.model.specs.Writing.{player_field}
@@ -30,10 +30,9 @@ pub record SetsLoaded (g : Game) (numbers : List ℕ) : Type 0 where
   pub starts : Held start_section (first_sequence g) g.sets numbers
   pub leads : Held lead_section (leading_number g) g.sets numbers
 
--- So many sets of some game, and a weight for each of a player's sequences.
-pub record FitsAsked (sets player : ℕ) (numbers x : List ℕ) : Type 0 where
+-- So many sets of some game, and a weight for each of p's sequences.
+pub record FitsAsked (sets : ℕ) (p : Player) (numbers x : List ℕ) : Type 0 where
   pub game : Game
   pub sets_loaded : SetsLoaded game numbers
   pub sets_in : sets ≤ game.sets
-  pub known : player < 2
-  pub weights_long : sequence_count game (player_of player) ≤ length x
+  pub weights_long : sequence_count game p ≤ length x

@@ -2,13 +2,14 @@
 ghost use Rattle.std.specs.Prelude.{◌≡◌, ◌+◌, ◌*◌, ◌-◌, ◌/◌, length};
 ghost use Rattle.model.specs.Game.{Game};
 ghost use Rattle.model.specs.PlanChecks.{plan_has_length, plan_well_formed};
-ghost use Rattle.checks.specs.Checked.{checked_of};
+ghost use Rattle.checks.specs.declared.Refusal.TheVariants.{PlanLength, PlanForm};
+ghost use Rattle.checks.specs.Answers.{checked_of};
 ghost use Rattle.loaded.specs.Counts.{counts_of};
 ghost use Rattle.plan.specs.Header.{header_right_of};
 ghost use Rattle.plan.specs.Loaded.{SequencesCounted};
 ghost use Rattle.plan.specs.Weights.{weights_of};
 
-use checks::Checked;
+use checks::Refusal;
 use loaded::Counts;
 use records::PlanHeader;
 
@@ -21,43 +22,36 @@ pub fn weight_count(counts: Counts) -> usize
 }
 
 // Check 14, for an accepted game with these counts.
-pub fn has_length(plan: &[u8], counts: Counts) -> Checked
+pub fn has_length(plan: &[u8], counts: Counts) -> Result<(), Refusal>
     requires { SequencesCounted counts }
-    ensures { (g : Game) → counts ≡ counts_of g → result ≡ checked_of 14 (plan_has_length g plan.now) }
+    ensures { (g : Game) → counts ≡ counts_of g → result ≡ checked_of PlanLength (plan_has_length g plan.now) }
 {
     checks::check(
-        14,
+        Refusal::PlanLength,
         plan.len() == PlanHeader::file_bytes(weight_count(counts)),
     )
 }
 
 // Whether the edition is 1, no denominator is zero, and the zero bits are.
+#[tactic(auto, unfolding(crate::specs::Header::header_right_of))]
 fn header_right(header: PlanHeader) -> bool
     ensures { result ≡ header_right_of header }
 {
-    if header.edition != PlanHeader::EDITION {
-        return false;
-    }
-    let denominators = header.denominators;
-    if denominators.d1 == 0 {
-        return false;
-    }
-    if denominators.d2 == 0 {
-        return false;
-    }
-    header.zeros == 0
+    header.edition == PlanHeader::EDITION
+        && header.denominators.d1 != 0
+        && header.denominators.d2 != 0
+        && header.zeros == 0
 }
 
 // Check 15, of a file that passes 14.
-pub fn well_formed(plan: &[u8], counts: Counts) -> Checked
+pub fn well_formed(plan: &[u8], counts: Counts) -> Result<(), Refusal>
     requires { SequencesCounted counts × (length plan.now ≡ 4 + (12 * weights_of counts + 7) / 8) }
-    ensures { (g : Game) → counts ≡ counts_of g → result ≡ checked_of 15 (plan_well_formed g plan.now) }
+    ensures { (g : Game) → counts ≡ counts_of g → result ≡ checked_of PlanForm (plan_well_formed g plan.now) }
 {
-    if header_right(PlanHeader::read(plan)) {
-        let at = PlanHeader::weight_at(weight_count(counts));
-        if bits::read_field(plan, at, 8 * plan.len() - at) == 0 {
-            return Checked::Fine;
-        }
-    }
-    Checked::Broken(15)
+    let at = PlanHeader::weight_at(weight_count(counts));
+    checks::check(
+        Refusal::PlanForm,
+        header_right(PlanHeader::read(plan))
+            && bits::read_field(plan, at, 8 * plan.len() - at) == 0,
+    )
 }

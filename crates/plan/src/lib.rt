@@ -8,25 +8,20 @@ ghost use Rattle.loaded.specs.Loaded.{NumbersLoaded};
 ghost use Rattle.plan.specs.Loaded.{LoadedIn};
 ghost use Rattle.plan.specs.Refusals.{PlanChecked};
 
-use checks::Checked;
+use checks::Refusal;
 use loaded::Counts;
 use records::{Denominators, PlanHeader};
 
 mod fits;
 mod format;
+mod move_run;
 mod order;
 mod weights;
 
 pub use fits::moves_total;
 pub use format::weight_count;
+pub use move_run::MoveRun;
 pub use order::put_weights;
-
-// The answer to a plan file, for a loaded game: its denominators.
-#[derive(Clone, Copy)]
-pub enum PlanAnswer {
-    Fits(Denominators),
-    Refused(u64),
-}
 
 // Checks 14 to 16 of a plan file, for a loaded game: D1 and D2 of a plan that fits, or the first refusal.
 // Past 15 the arrays are filled with both players' weights by sequence number.
@@ -36,23 +31,13 @@ pub fn check(
     plan: &[u8],
     x: &mut [u16],
     y: &mut [u16],
-) -> PlanAnswer
+) -> Result<Denominators, Refusal>
     requires { LoadedIn counts numbers.now × (count_limit ≤ length x.old) × (count_limit ≤ length y.old) }
     ensures { (game : List ℕ) → NumbersLoaded (game_of game) counts numbers.now → PlanChecked game plan.now result x.old x.new y.old y.new }
 {
-    let c14 = format::has_length(plan, counts);
-    let Checked::Fine = c14 else {
-        return PlanAnswer::Refused(checks::number(c14));
-    };
-    let c15 = format::well_formed(plan, counts);
-    let Checked::Fine = c15 else {
-        return PlanAnswer::Refused(checks::number(c15));
-    };
-    let c16 = fits::plan_fits(numbers, counts, plan, x, y);
-    let Checked::Fine = c16 else {
-        return PlanAnswer::Refused(checks::number(c16));
-    };
+    format::has_length(plan, counts)?;
+    format::well_formed(plan, counts)?;
+    fits::plan_fits(numbers, counts, plan, x, y)?;
     let header = PlanHeader::read(plan);
-    let denominators = header.denominators;
-    PlanAnswer::Fits(denominators)
+    Ok(header.denominators)
 }

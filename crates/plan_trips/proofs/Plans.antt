@@ -1,13 +1,12 @@
 -- The round trips of a plan, on the calls.
 use Prim.Native.Nat.{ℕ, ◌≤◌, ◌<◌}
 use mathlib.Core.Path.{◌≡◌, refl, sym, ap, ◌∙◌}
-use mathlib.Core.Bool.{Bool, true, false, not, false≢true}
+use mathlib.Core.Bool.{Bool, true, false, false≢true}
 use mathlib.Core.List.{List, [], ◌∷◌}
 use native.Mathlib.Omega.{arith}
 use native.Mathlib.Decide.{dec_lt}
-use lib.Dec.{T, eqb}
+use lib.Dec.{T}
 use lib.ListN.{length, take}
-use lib.Seq.{take_all}
 use borrow.Author.Tests.{le-leb}
 use Rattle.algebra.proofs.Tests.{true→T, cond_yes}
 use Rattle.model.specs.Limits.{count_limit}
@@ -21,7 +20,6 @@ use Rattle.model.specs.Demand2.{IsBytes}
 use Rattle.model.specs.Rows.{of, refusal}
 use Rattle.model.specs.Checks.{pair_rows}
 use Rattle.model.specs.Call.{given, refused, long_enough, after_call, Outcome, outcome}
-use Rattle.model.specs.Exported.{refusal_of}
 use Rattle.model.specs.Calls.PlanFields as PlanFields
 use Rattle.model.specs.Calls.WritePlan as WritePlan
 use Rattle.model.specs.Calls.RewritePlan as RewritePlan
@@ -34,19 +32,21 @@ use Rattle.model.proofs.Cut.{long_plan, long_plans}
 use Rattle.model.proofs.Rows.{taken_iff, refusal_of_lem}
 use Rattle.model.proofs.Checks.{pair_refusal_lem, pair_named, pair_decided}
 use Rattle.model.proofs.Calls.RereadPlan.{reread_decided}
-use Rattle.checks.specs.declared.Checked.{Checked}
-use Rattle.checks.specs.declared.Checked.TheVariants.{Fine, Broken}
-use Rattle.checks.specs.Checked.{checked_of, number_of}
+use Rattle.std.specs.Prelude.{Result, Ok, Err}
+use Rattle.model.specs.Exported.{same}
+use Rattle.checks.specs.declared.Refusal.{Refusal}
+use Rattle.checks.specs.declared.Refusal.TheVariants.{Number, Room}
+use Rattle.checks.specs.Answers.{refusal_number, answered}
+use Rattle.checks.proofs.AnswerLaws.{numbers_apart}
 use Rattle.checks.proofs.Rooms.{split}
-use Rattle.checks.proofs.Chains.{Refuses, begin, passes, stops, is_broken, fine_holds, call_refuses, call_room, in_room, same_run}
-use Rattle.checks.specs.declared.WriteAnswer.{WriteAnswer}
-use Rattle.checks.specs.declared.WriteAnswer.TheVariants.{Written, Refused}
-use Rattle.checks.specs.Answers.{write_answered}
-use Rattle.plans.specs.declared.WeightsAnswer.{WeightsAnswer}
-use Rattle.plans.specs.declared.WeightsAnswer.TheVariants as Weights
-use Rattle.plans.specs.Answers.{weights_answered}
-use Rattle.plan_trips.specs.Extents.{extent_of}
+use Rattle.checks.proofs.Chains.{Refuses, begin, passes, stops, is_fine, is_broken, call_refuses, call_room, in_room, same_run}
+use Rattle.plans.specs.declared.PlanCounts.{PlanCounts}
+use Rattle.plans.specs.Answers.{counts_seen}
 use Rattle.checks.proofs.Runs.{Gave, gave, not_gave, front}
+
+-- nothing is both given and refused
+unlike : {R : Type 0} {x : R} {k : ℕ} → ¬ (given x ≡ refused k)
+unlike e = let y : ◌≡◌ {A = ℕ} 0 1 = cc in omega arith
 
 -- the writer refuses nothing that fits
 taken : (t : PlanFields) → T (plan_fields_fit t.d1 t.d2 t.weights) → refusal WritePlan.rows t ≡ 0
@@ -76,11 +76,11 @@ module _ (game plan out : List ℕ) where
   roomy l long e = rw (le-leb (length (plan_weights (game_of game) plan)) (length l) (omega (arith, length_weights, few e)))
 
   -- what reading refuses
-  pub rewrite_refused : (l : List ℕ) → count_limit ≤ length l → {r : WeightsAnswer} {after : List ℕ} {k m : ℕ} → outcome (weights_answered r) (after, tt) ≡ PlanFields.plan_fields_of game plan l → r ≡ Weights.Refused k → m ≡ refusal_of (weights_answered r) → outcome (refused m) (out, tt) ≡ RewritePlan.rewrite_plan_of game plan out
+  pub rewrite_refused : (l : List ℕ) → count_limit ≤ length l → {r : Result PlanCounts Refusal} {after : List ℕ} {d : Refusal} → outcome (answered counts_seen r) (after, tt) ≡ PlanFields.plan_fields_of game plan l → r ≡ Err d → outcome (refused (refusal_number d)) (out, tt) ≡ RewritePlan.rewrite_plan_of game plan out
   unfolding PlanFields.call RewritePlan.call
-  rewrite_refused l long {r} {after} {k} {m} e f g =
-      let s : Refuses pair_rows pair k = not_gave PlanFields.call pair_named pair (l, tt) e (ap weights_answered f) (roomy l long) in
-      rw (g, f) (sym (call_refuses RewritePlan.call pair_named pair (out, tt) s))
+  rewrite_refused l long {d = d} e f =
+      let s : Refuses pair_rows pair (refusal_number d) = not_gave PlanFields.call pair_named pair (l, tt) e (ap (answered counts_seen) f) (roomy l long) in
+      sym (call_refuses RewritePlan.call pair_named pair (out, tt) s)
 
   -- what reading gives
   pub record Read (d1 d2 count : ℕ) (after : List ℕ) : Type 0 where
@@ -90,10 +90,11 @@ module _ (game plan out : List ℕ) where
     pub small : count ≤ 4094
     pub weights : take count after ≡ plan_weights (game_of game) plan
 
-  pub read_given : (l : List ℕ) {r : WeightsAnswer} {after : List ℕ} {d1 d2 count : ℕ} → outcome (weights_answered r) (after, tt) ≡ PlanFields.plan_fields_of game plan l → r ≡ Weights.Given d1 d2 count → Read d1 d2 count after
+  pub read_given : (l : List ℕ) {r : Result PlanCounts Refusal} {after : List ℕ} {c : PlanCounts} → outcome (answered counts_seen r) (after, tt) ≡ PlanFields.plan_fields_of game plan l → r ≡ Ok c → Read c.d1 c.d2 c.count after
   unfolding PlanFields.call
-  read_given l {r} {after} {d1} {d2} {count} e f =
-      let G : Gave PlanFields.call pair_named pair (l, tt) (record { d1 = d1; d2 = d2; count = count }) (after, tt) = gave PlanFields.call pair_named pair (l, tt) e (ap weights_answered f) in
+  read_given l {r} {after} {c} e f =
+      let count = c.count in
+      let G : Gave PlanFields.call pair_named pair (l, tt) (counts_seen c) (after, tt) = gave PlanFields.call pair_named pair (l, tt) e (ap (answered counts_seen) f) in
       let w = plan_weights (game_of game) plan in
       let n : count ≡ plan_moves (game_of game) = ap (λ (v : PlanFields.PlanCounts). v.count) G.result in
       let left : after ≡ after_call 0 w l = ap (λ (b : List ℕ × Unit {0}). b.0) G.buffers in
@@ -127,14 +128,15 @@ module _ (game : List ℕ) (d1 d2 : ℕ) (weights out : List ℕ) where
   abbrev file : List ℕ
   file = plan_bytes d1 d2 weights
 
-  module _ {c : Checked} (tested : c ≡ checked_of 17 (plan_fields_fit d1 d2 weights)) where
-    stopped : {n m : ℕ} → c ≡ Broken n → m ≡ number_of c → Refuses RereadPlan.rows asked m
-    unfolding RereadPlan.rows WritePlan.rows of
-    stopped f g = stops (begin RereadPlan.rows asked) tested f g
+  -- 17, of weights that do not fit
+  stopped : plan_fields_fit d1 d2 weights ≡ false → Refuses RereadPlan.rows asked 17
+  unfolding RereadPlan.rows WritePlan.rows of
+  stopped z = stops Number (begin RereadPlan.rows asked) refl (is_broken Number z) refl
 
-    passed : c ≡ Fine → refusal RereadPlan.rows asked ≡ refusal pair_rows (files game file)
-    unfolding RereadPlan.rows WritePlan.rows of
-    passed f = (passes (begin RereadPlan.rows asked) tested f).same ∙ refusal_of_lem RereadPlan.files_of pair_rows asked
+  -- of weights that fit what their file is refused for
+  passed : plan_fields_fit d1 d2 weights ≡ true → refusal RereadPlan.rows asked ≡ refusal pair_rows (files game file)
+  unfolding RereadPlan.rows WritePlan.rows of
+  passed z = (passes Number (begin RereadPlan.rows asked) (is_fine Number z) refl).same ∙ refusal_of_lem RereadPlan.files_of pair_rows asked
 
   -- what is written is read back as it was given
   read_back : T (plan_fields_fit d1 d2 weights) → refusal RereadPlan.rows asked ≡ refusal pair_rows (files game file) → PlanFields.plan_fields_of game file out ≡ RereadPlan.reread_plan_of game d1 d2 weights out
@@ -155,70 +157,69 @@ module _ (game : List ℕ) (d1 d2 : ℕ) (weights out : List ℕ) where
       (sym (pair_refusal_lem game l) ∙ long_plans game l file long_l long ∙ pair_refusal_lem game file ∙ sym alike)
       (λ e. absurd (long_plan game file long (pair_refusal_lem game file ∙ sym alike ∙ e)))
 
-  -- the writer's answer, with a file of 6,146 bytes to write to
-  module _ (l after : List ℕ) (r : WriteAnswer) (e : outcome (write_answered r) (after, tt) ≡ WritePlan.write_plan_of d1 d2 weights l) where
+  -- What the writer has done with a file to write to.
+  module _ (l after : List ℕ) where
     abbrev room : Bool
     room = long_enough (length file ∷ []) (length l ∷ [])
 
-    -- fields that fit: written, or 18
-    roomed : T (plan_fields_fit d1 d2 weights) → outcome (write_answered r) (after, tt) ≡ in_room {R = ℕ} {shape = ℕ ∷ []} room (length file) (file, tt) (l, tt)
-    unfolding WritePlan.call WritePlan.rows
-    roomed fit = e ∙ call_room WritePlan.call tt fields (l, tt) (taken fields fit)
+    -- by its two tests
+    abbrev done : (fits has_room : Bool) → Outcome (ℕ ∷ []) ℕ
+    done true t = in_room {R = ℕ} {shape = ℕ ∷ []} t (length file) (file, tt) (l, tt)
+    done false t = outcome (refused 17) (l, tt)
 
-    -- 17 is what its answer says
-    tested : {k : ℕ} → k ≡ refusal_of (write_answered r) → not (eqb k 17) ≡ plan_fields_fit d1 d2 weights
+    writes : (b : Bool) → plan_fields_fit d1 d2 weights ≡ b → WritePlan.write_plan_of d1 d2 weights l ≡ done b room
     unfolding WritePlan.call WritePlan.rows
-    tested {k} f = go (plan_fields_fit d1 d2 weights) refl
+    writes true z = call_room WritePlan.call tt fields (l, tt) (taken fields (true→T _ z))
+    writes false z = call_refuses WritePlan.call tt fields (l, tt) (stops Number (begin _ fields) refl (is_broken Number z) refl)
+
+    longer : room ≡ false → length l < length file
+    longer t =
+        elim (dec_lt (length l) (length file)) [
+          | yes b ↦ b
+          | no b ↦ absurd (false≢true (sym t ∙ rw (le-leb (length file) (length l) (omega arith))))
+        ]
+
+    -- what is written is read
+    pub reread_written : {r : Result ℕ Refusal} {n : ℕ} → outcome (answered same r) (after, tt) ≡ WritePlan.write_plan_of d1 d2 weights l → r ≡ Ok n → (n ≤ length l) × (PlanFields.plan_fields_of game (take n after) out ≡ RereadPlan.reread_plan_of game d1 d2 weights out)
+    reread_written {r} {n} e f = go (plan_fields_fit d1 d2 weights) refl room refl (sym (ap (λ (r : Result ℕ Refusal). outcome {shape = ℕ ∷ []} (answered same r) (after, tt)) f) ∙ e ∙ writes _ refl)
       where
-        settle : (t : Bool) → not (eqb (refusal_of (in_room {R = ℕ} {shape = ℕ ∷ []} t (length file) (file, tt) (l, tt)).answer) 17) ≡ true
-        settle true = refl
-        settle false = refl
+        go : (b : Bool) → plan_fields_fit d1 d2 weights ≡ b → (t : Bool) → room ≡ t → outcome (given n) (after, tt) ≡ done b t → (n ≤ length l) × (PlanFields.plan_fields_of game (take n after) out ≡ RereadPlan.reread_plan_of game d1 d2 weights out)
+        go true z true t o =
+            let same : given n ≡ given (length file) = ap (λ (o : Outcome (ℕ ∷ []) ℕ). o.answer) o in
+            let whole : n ≡ length file = cc in
+            let left : after ≡ after_call 0 file l = ap (λ (o : Outcome (ℕ ∷ []) ℕ). o.buffers.0) o in
+            let small = (split (length file) (length l) t).0 in
+            (omega (arith, whole, small), rw (whole, front (length file) file l after refl left) (read_back (true→T _ z) (passed z)))
+        go true z false t o = absurd (unlike (ap (λ (o : Outcome (ℕ ∷ []) ℕ). o.answer) o))
+        go false z t y o = absurd (unlike (ap (λ (o : Outcome (ℕ ∷ []) ℕ). o.answer) o))
 
-        go : (b : Bool) → plan_fields_fit d1 d2 weights ≡ b → not (eqb k 17) ≡ b
-        go true z = rw f (ap (λ (o : Outcome (ℕ ∷ []) ℕ). not (eqb (refusal_of o.answer) 17)) (roomed (true→T _ z)) ∙ settle room)
-        go false z = rw f (ap (λ (o : Outcome (ℕ ∷ []) ℕ). not (eqb (refusal_of o.answer) 17)) (e ∙ call_refuses WritePlan.call tt fields (l, tt) (stops {r = Broken 17} (begin _ fields) (is_broken 17 z) refl refl)))
+    -- where more had to be written the whole file is read
+    pub reread_long : {r : Result ℕ Refusal} → outcome (answered same r) (after, tt) ≡ WritePlan.write_plan_of d1 d2 weights l → r ≡ Err Room → longest_plan < length l → PlanFields.plan_fields_of game after out ≡ RereadPlan.reread_plan_of game d1 d2 weights out
+    reread_long {r} e f most = go (plan_fields_fit d1 d2 weights) refl room refl (sym (ap (λ (r : Result ℕ Refusal). outcome {shape = ℕ ∷ []} (answered same r) (after, tt)) f) ∙ e ∙ writes _ refl)
+      where
+        go : (b : Bool) → plan_fields_fit d1 d2 weights ≡ b → (t : Bool) → room ≡ t → outcome (refused 18) (after, tt) ≡ done b t → PlanFields.plan_fields_of game after out ≡ RereadPlan.reread_plan_of game d1 d2 weights out
+        go true z true t o = absurd (unlike (sym (ap (λ (o : Outcome (ℕ ∷ []) ℕ). o.answer) o)))
+        go true z false t o = rw (ap (λ (o : Outcome (ℕ ∷ []) ℕ). o.buffers.0) o) (read_long l most (omega (arith, most, longer t)) (passed z))
+        go false z t y o =
+            let same : refused 18 ≡ refused 17 = ap (λ (o : Outcome (ℕ ∷ []) ℕ). o.answer) o in
+            let is : ◌≡◌ {A = ℕ} 18 17 = cc in
+            absurd (omega arith)
 
-    module _ {k : ℕ} {c : Checked} (is : k ≡ refusal_of (write_answered r)) (checked : c ≡ checked_of 17 (not (eqb k 17))) where
-      -- something does not fit
-      pub reread_misfit : {n m : ℕ} → c ≡ Broken n → m ≡ number_of c → outcome (refused m) (out, tt) ≡ RereadPlan.reread_plan_of game d1 d2 weights out
-      unfolding RereadPlan.call
-      reread_misfit f g = sym (call_refuses RereadPlan.call reread_decided.numbered asked (out, tt) (stopped (checked ∙ rw (tested is)) f g))
-
-      -- all fits: what is written is read, or the whole file where more had to be written
-      pub reread_rest : c ≡ Fine → {x all : ℕ} → x ≡ extent_of all r → length l ≡ all → longest_plan < all → (x ≤ all) × (PlanFields.plan_fields_of game (take x after) out ≡ RereadPlan.reread_plan_of game d1 d2 weights out)
-      reread_rest f {x} {all} size long most = go r room refl (roomed fit) size
-        where
-          fit : T (plan_fields_fit d1 d2 weights)
-          fit = true→T _ (sym (tested is) ∙ fine_holds 17 _ checked f)
-
-          alike : refusal RereadPlan.rows asked ≡ refusal pair_rows (files game file)
-          alike = passed (checked ∙ rw (tested is)) f
-
-          longer : room ≡ false → length l < length file
-          longer t =
-              elim (dec_lt (length l) (length file)) [
-                | yes b ↦ b
-                | no b ↦ absurd (false≢true (sym t ∙ rw (le-leb (length file) (length l) (omega arith))))
-              ]
-
-          go : (r : WriteAnswer) (t : Bool) → room ≡ t → outcome (write_answered r) (after, tt) ≡ in_room {R = ℕ} {shape = ℕ ∷ []} t (length file) (file, tt) (l, tt) → x ≡ extent_of all r → (x ≤ all) × (PlanFields.plan_fields_of game (take x after) out ≡ RereadPlan.reread_plan_of game d1 d2 weights out)
-          go (Written n) true t o s =
-              let same : given n ≡ given (length file) = ap (λ (o : Outcome (ℕ ∷ []) ℕ). o.answer) o in
-              let whole : n ≡ length file = cc in
-              let left : after ≡ after_call 0 file l = ap (λ (o : Outcome (ℕ ∷ []) ℕ). o.buffers.0) o in
-              let small = (split (length file) (length l) t).0 in
-              (omega (arith, s, whole, small, long), rw (s, whole, front (length file) file l after refl left) (read_back fit alike))
-          go (Written n) false t o s =
-              let same : given n ≡ refused 18 = ap (λ (o : Outcome (ℕ ∷ []) ℕ). o.answer) o in
-              let y : ◌≡◌ {A = ℕ} 0 1 = cc in
-              absurd (omega arith)
-          go (Refused n) true t o s =
-              let same : refused n ≡ given (length file) = ap (λ (o : Outcome (ℕ ∷ []) ℕ). o.answer) o in
-              let y : ◌≡◌ {A = ℕ} 0 1 = cc in
-              absurd (omega arith)
-          go (Refused n) false t o s =
-              let left : after ≡ l = ap (λ (o : Outcome (ℕ ∷ []) ℕ). o.buffers.0) o in
-              (omega (arith, s), rw (s, left, take_all all l (omega (arith, long))) (read_long l (omega (arith, long, most)) (omega (arith, long, most, longer t)) alike))
+    -- something does not fit
+    pub reread_misfit : {r : Result ℕ Refusal} {d : Refusal} → outcome (answered same r) (after, tt) ≡ WritePlan.write_plan_of d1 d2 weights l → r ≡ Err d → ¬ (d ≡ Room) → outcome (refused (refusal_number d)) (out, tt) ≡ RereadPlan.reread_plan_of game d1 d2 weights out
+    unfolding RereadPlan.call
+    reread_misfit {r} {d} e f other = go (plan_fields_fit d1 d2 weights) refl room refl (sym (ap (λ (r : Result ℕ Refusal). outcome {shape = ℕ ∷ []} (answered same r) (after, tt)) f) ∙ e ∙ writes _ refl)
+      where
+        go : (b : Bool) → plan_fields_fit d1 d2 weights ≡ b → (t : Bool) → room ≡ t → outcome (refused (refusal_number d)) (after, tt) ≡ done b t → outcome (refused (refusal_number d)) (out, tt) ≡ RereadPlan.reread_plan_of game d1 d2 weights out
+        go true z true t o = absurd (unlike (sym (ap (λ (o : Outcome (ℕ ∷ []) ℕ). o.answer) o)))
+        go true z false t o =
+            let same : refused (refusal_number d) ≡ refused 18 = ap (λ (o : Outcome (ℕ ∷ []) ℕ). o.answer) o in
+            let is : refusal_number d ≡ 18 = cc in
+            absurd (other (numbers_apart is))
+        go false z t y o =
+            let same : refused (refusal_number d) ≡ refused 17 = ap (λ (o : Outcome (ℕ ∷ []) ℕ). o.answer) o in
+            let is : refusal_number d ≡ 17 = cc in
+            rw is (sym (call_refuses RereadPlan.call reread_decided.numbered asked (out, tt) (stopped z)))
 
 -- no plan of a game has 6,146 bytes
 pub longer_than_any : longest_plan < 6146

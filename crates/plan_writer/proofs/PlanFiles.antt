@@ -1,27 +1,27 @@
 -- The plan writer: its test of numbers, and its file as a header with a run of weights.
-use Prim.Native.Nat.{ℕ, ◌+◌, ◌*◌, ◌/◌, ◌^◌}
+use Prim.Native.Nat.{ℕ, ◌+◌, ◌*◌, ◌/◌}
 use mathlib.Core.Path.{◌≡◌, sym, ◌∙◌}
-use mathlib.Core.Bool.{Bool, ◌&&◌}
+use mathlib.Core.Bool.{Bool}
 use mathlib.Core.List.{List, ◌++◌}
 use native.Mathlib.Omega.{arith}
 use lib.ListN.{length, length-append}
-use lib.Dec.{ltb, leb}
+use lib.Dec.{leb}
 use Rattle.algebra.specs.Arrays.{placed}
 use Rattle.algebra.proofs.Arrays.{placed_twice}
 use Rattle.model.specs.Bits.{run_bits, packed, pack}
-use Rattle.model.specs.Writing.{PlanFields, plan_fields_of, plan_bytes, all_fit, plan_fields_fit}
+use Rattle.model.specs.Writing.{PlanFields, plan_fields_of, plan_bytes, plan_fields_fit}
 use Rattle.model.specs.Rules.{PlanFieldsFit}
 use Rattle.model.specs.Call.{outcome}
 use Rattle.model.specs.Calls.WritePlan.{rows, bytes_of, call, write_plan_of}
 use Rattle.model.proofs.Bits.{length_bits, length_packed}
 use Rattle.model.proofs.Packing.{pack_whole, pack_append}
 use Rattle.model.proofs.PlanTrips.{length_plan}
-use Rattle.checks.specs.declared.Checked.{Checked}
-use Rattle.checks.specs.declared.Checked.TheVariants.{Fine, Broken}
-use Rattle.checks.specs.Checked.{checked_of, number_of}
-use Rattle.checks.specs.declared.WriteAnswer.{WriteAnswer}
-use Rattle.checks.specs.declared.WriteAnswer.TheVariants.{Written, Refused}
-use Rattle.checks.specs.Answers.{write_answered}
+use Rattle.std.specs.Prelude.{Result, Ok, Err}
+use Rattle.model.specs.Exported.{same}
+use Rattle.checks.specs.declared.Refusal.{Refusal}
+use Rattle.checks.specs.declared.Refusal.TheVariants.{Number, Room}
+use Rattle.checks.specs.Answers.{checked_of, answered}
+use Rattle.checks.proofs.Chains.{Checked}
 use Rattle.records.specs.PlanRecords.{plan_header_with, plan_header_bits}
 use Rattle.fitting.proofs.Refusals.{misfit, short, written}
 
@@ -30,11 +30,6 @@ abbrev headed : (d1 d2 : ℕ) → List ℕ
 headed d1 d2 = plan_header_bits (plan_header_with d1 d2)
 
 module _ (d1 d2 : ℕ) (weights : List ℕ) where
-  -- the tests of the weights, of D2 and of D1, one after the other
-  pub numbers_tested : {a b r : Bool} → a ≡ all_fit 12 weights → b ≡ (ltb d2 (2 ^ 12) && a) → r ≡ (ltb d1 (2 ^ 12) && b) → r ≡ plan_fields_fit d1 d2 weights
-  unfolding plan_fields_fit all_fit
-  numbers_tested e f g = rw (g, f, e)
-
   -- the header fills four bytes
   header_size : length (headed d1 d2) ≡ 8 * 4
   unfolding plan_header_bits
@@ -55,25 +50,25 @@ module _ (d1 d2 : ℕ) (weights : List ℕ) where
 
 module _ (d1 d2 : ℕ) (weights out : List ℕ) where
   -- the answer, and the lent bytes afterwards
-  abbrev pub Leaves : WriteAnswer → List ℕ → Type 0
-  Leaves r after = outcome (write_answered r) (after, tt) ≡ write_plan_of d1 d2 weights out
+  abbrev pub Leaves : Result ℕ Refusal → List ℕ → Type 0
+  Leaves r after = outcome (answered same r) (after, tt) ≡ write_plan_of d1 d2 weights out
 
   abbrev fit : PlanFields → Bool
   fit t = plan_fields_fit t.d1 t.d2 t.weights
 
-  module _ {x : Bool} {a : Checked} (tested : x ≡ plan_fields_fit d1 d2 weights) (checked : a ≡ checked_of 17 x) where
+  module _ {x : Bool} {a : Checked} (tested : x ≡ plan_fields_fit d1 d2 weights) (checked : a ≡ checked_of Number x) where
     -- a number that does not fit
-    pub plan_misfit : {n m : ℕ} → a ≡ Broken n → m ≡ number_of a → Leaves (Refused m) out
+    pub plan_misfit : {d : Refusal} → a ≡ Err d → Leaves (Err d) out
     unfolding call rows
-    plan_misfit f g = misfit fit (λ t. ¬ PlanFieldsFit t) bytes_of (plan_fields_of d1 d2 weights) out tested checked f g
+    plan_misfit f = misfit fit (λ t. ¬ PlanFieldsFit t) bytes_of (plan_fields_of d1 d2 weights) out tested checked f
 
-    module _ {b : Checked} (fine : a ≡ Fine) {size : ℕ} (is : size ≡ 4 + (12 * length weights + 7) / 8) (room : b ≡ checked_of 18 (leb size (length out))) where
+    module _ {b : Checked} {u : Unit {0}} (fine : a ≡ Ok u) {size : ℕ} (is : size ≡ 4 + (12 * length weights + 7) / 8) (room : b ≡ checked_of Room (leb size (length out))) where
       -- a buffer too short
-      pub plan_short : {k m : ℕ} → b ≡ Broken k → m ≡ number_of b → Leaves (Refused m) out
+      pub plan_short : {d : Refusal} → b ≡ Err d → Leaves (Err d) out
       unfolding call rows
-      plan_short f g = short fit (λ t. ¬ PlanFieldsFit t) bytes_of (plan_fields_of d1 d2 weights) out tested checked fine (is ∙ sym (length_plan d1 d2 weights)) room f g
+      plan_short f = short fit (λ t. ¬ PlanFieldsFit t) bytes_of (plan_fields_of d1 d2 weights) out tested checked fine (is ∙ sym (length_plan d1 d2 weights)) room f
 
       -- all bytes written
-      pub plan_written : b ≡ Fine → {after : List ℕ} → after ≡ placed 0 (plan_bytes d1 d2 weights) out → Leaves (Written size) after
+      pub plan_written : {v : Unit {0}} → b ≡ Ok v → {after : List ℕ} → after ≡ placed 0 (plan_bytes d1 d2 weights) out → Leaves (Ok size) after
       unfolding call rows
       plan_written f all = written fit (λ t. ¬ PlanFieldsFit t) bytes_of (plan_fields_of d1 d2 weights) out tested checked fine (is ∙ sym (length_plan d1 d2 weights)) room f all

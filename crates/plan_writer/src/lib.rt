@@ -1,34 +1,25 @@
 // The plan writer: refusals 17 and 18, then the header and all weights in file order.
 #![tactic(auto)]
 
-ghost use Rattle.std.specs.Prelude.{◌≡◌, ◌&&◌, ◌+◌, ◌*◌, ◌/◌, ◌^◌, ◌≤◌, length, ltb};
+ghost use Rattle.std.specs.Prelude.{◌≡◌, ◌+◌, ◌*◌, ◌/◌, ◌≤◌, length};
 ghost use Rattle.algebra.specs.Arrays.{placed};
 ghost use Rattle.model.specs.Writing.{plan_bytes, plan_fields_fit};
 ghost use Rattle.model.specs.Call.{outcome};
 ghost use Rattle.model.specs.Calls.WritePlan.{write_plan_of};
-ghost use Rattle.checks.specs.Answers.{write_answered};
+ghost use Rattle.model.specs.Exported.{same};
+ghost use Rattle.checks.specs.Answers.{answered};
 
-use checks::{Checked, WriteAnswer};
+use checks::Refusal;
+use fitting::{all_fit, fits_width};
 use records::PlanHeader;
-
-// Whether a denominator fits, and the later numbers fit.
-fn fits_and(denominator: u64, later: bool) -> bool
-    ensures { result ≡ (ltb denominator (2 ^ 12) && later) }
-{
-    if fitting::fits_width(denominator, PlanHeader::DENOMINATOR_BITS) {
-        later
-    } else {
-        false
-    }
-}
 
 // Whether D1, D2 and all weights fit.
 fn numbers_fit(d1: u64, d2: u64, weights: &[u64]) -> bool
     ensures { result ≡ plan_fields_fit d1 d2 weights.now }
 {
-    let ok = fitting::all_fit(weights, PlanHeader::WEIGHT_BITS);
-    let ok = fits_and(d2, ok);
-    fits_and(d1, ok)
+    fits_width(d1, PlanHeader::DENOMINATOR_BITS)
+        && fits_width(d2, PlanHeader::DENOMINATOR_BITS)
+        && all_fit(weights, PlanHeader::WEIGHT_BITS)
 }
 
 // The header, and the weights after it.
@@ -42,18 +33,12 @@ fn put_plan(d1: u64, d2: u64, weights: &[u64], out: &mut [u8])
 }
 
 // Writes a plan file: D1, D2 and all weights, player 1's first.
-pub fn write(d1: u64, d2: u64, weights: &[u64], out: &mut [u8]) -> WriteAnswer
-    ensures { outcome (write_answered result) (out.new, tt) ≡ write_plan_of d1 d2 weights.now out.old }
+pub fn write(d1: u64, d2: u64, weights: &[u64], out: &mut [u8]) -> Result<usize, Refusal>
+    ensures { outcome (answered same result) (out.new, tt) ≡ write_plan_of d1 d2 weights.now out.old }
 {
-    let fit = checks::check(17, numbers_fit(d1, d2, weights));
-    let Checked::Fine = fit else {
-        return WriteAnswer::Refused(checks::number(fit));
-    };
+    checks::check(Refusal::Number, numbers_fit(d1, d2, weights))?;
     let size = PlanHeader::file_bytes(weights.len());
-    let room = checks::has_room(size, out.len());
-    let Checked::Fine = room else {
-        return WriteAnswer::Refused(checks::number(room));
-    };
+    checks::has_room(size, out.len())?;
     put_plan(d1, d2, weights, out);
-    WriteAnswer::Written(size)
+    Ok(size)
 }

@@ -15,11 +15,12 @@ use Rattle.model.specs.Calls.CheckPlan as CheckPlan
 use Rattle.model.specs.Calls.PlanFields as PlanFields
 use Rattle.model.proofs.Bits.{length_fields}
 use Rattle.model.proofs.Checks.{pair_named}
-use Rattle.checks.specs.declared.Checked.{Checked}
-use Rattle.checks.specs.declared.Checked.TheVariants.{Fine, Broken}
-use Rattle.checks.specs.Checked.{checked_of, number_of}
+use Rattle.std.specs.Prelude.{Ok, Err}
+use Rattle.checks.specs.declared.Refusal.{Refusal}
+use Rattle.checks.specs.declared.Refusal.TheVariants.{Room}
+use Rattle.checks.specs.Answers.{refusal_number, checked_of}
 use Rattle.checks.proofs.NoBuffer.{answer_refused, answer_given}
-use Rattle.checks.proofs.Chains.{call_refuses}
+use Rattle.checks.proofs.Chains.{Checked, call_refuses}
 use Rattle.checks.proofs.Files.{pair_refuses, pair_fine}
 use Rattle.checks.proofs.OneBuffer.{one_short, one_given}
 use Rattle.loaded.specs.declared.Counts.{Counts}
@@ -59,14 +60,14 @@ module _ (game plan weights : List ℕ) where
   length_weights = length_fields plan (weight_bit 0) 12 (plan_moves (game_of game))
 
   -- Check 18, of a pair that fits and has n moves.
-  module _ (none : pair_refusal game plan ≡ 0) {n : ℕ} (many : n ≡ plan_moves (game_of game)) {r : Checked} (made : r ≡ checked_of 18 (leb n (length weights))) where
+  module _ (none : pair_refusal game plan ≡ 0) {n : ℕ} (many : n ≡ plan_moves (game_of game)) {r : Checked} (made : r ≡ checked_of Room (leb n (length weights))) where
     -- no room
-    pub weights_short : {k m : ℕ} → r ≡ Broken k → m ≡ number_of r → outcome (refused m) (weights, tt) ≡ PlanFields.plan_fields_of game plan weights
+    pub weights_short : {d : Refusal} → r ≡ Err d → outcome (refused (refusal_number d)) (weights, tt) ≡ PlanFields.plan_fields_of game plan weights
     unfolding PlanFields.call
-    weights_short f g = one_short PlanFields.call pair_named (files game plan) weights (pair_fine game plan none) (many ∙ sym length_weights) made f g
+    weights_short f = one_short PlanFields.call pair_named (files game plan) weights (pair_fine game plan none) (many ∙ sym length_weights) made f
 
     -- all weights given
-    pub weights_given : r ≡ Fine → (h : PairHeader) → PairOpened game plan h → {x y after : List ℕ} → Holds (weight_by_number (game_of game) plan one) (sequence_count (game_of game) one) x → Holds (weight_by_number (game_of game) plan two) (sequence_count (game_of game) two) y → after ≡ placed 0 (in_file_order h.counts x y) weights → outcome (given (record { d1 = h.denominators.d1; d2 = h.denominators.d2; count = n })) (after, tt) ≡ PlanFields.plan_fields_of game plan weights
+    pub weights_given : {u : Unit {0}} → r ≡ Ok u → (h : PairHeader) → PairOpened game plan h → {x y after : List ℕ} → Holds (weight_by_number (game_of game) plan one) (sequence_count (game_of game) one) x → Holds (weight_by_number (game_of game) plan two) (sequence_count (game_of game) two) y → after ≡ placed 0 (in_file_order h.counts x y) weights → outcome (given (record { d1 = h.denominators.d1; d2 = h.denominators.d2; count = n })) (after, tt) ≡ PlanFields.plan_fields_of game plan weights
     unfolding PlanFields.call
     weights_given f h o {x} {y} held1 held2 put =
         let order = ap (λ (c : Counts). in_file_order c x y) o.counts ∙ file_order (game_of game) plan x y held1 held2 in

@@ -1,18 +1,13 @@
--- The number and the values of each case of the answers.
-use Rattle.model.specs.Call.{Answer, given, refused}
-use Rattle.model.specs.Calls.CheckPlan.{Denominators}
-use Rattle.model.specs.Calls.PlanFields.{PlanCounts}
-use Rattle.plans.specs.declared.PlanAnswer.{PlanAnswer}
-use Rattle.plans.specs.declared.PlanAnswer.TheVariants as Plan
-use Rattle.plans.specs.declared.WeightsAnswer.{WeightsAnswer}
-use Rattle.plans.specs.declared.WeightsAnswer.TheVariants as Weights
+-- What the calls give, as the model has it.
+use Rattle.model.specs.Calls.CheckPlan as CheckPlan
+use Rattle.model.specs.Calls.PlanFields as PlanFields
+use Rattle.records.specs.declared.plan_file.Denominators.{Denominators}
+use Rattle.plans.specs.declared.PlanCounts.{PlanCounts}
 
 -- the check of a plan: D1 and D2
-abbrev pub plan_answered : PlanAnswer → Answer Denominators
-plan_answered (Plan.Fits d1 d2) = given (record { d1 = d1; d2 = d2 })
-plan_answered (Plan.Refused number) = refused number
+abbrev pub denominators_seen : Denominators → CheckPlan.Denominators
+denominators_seen d = record { d1 = d.d1; d2 = d.d2 }
 
 -- all weights of a plan: D1, D2 and how many weights there are
-abbrev pub weights_answered : WeightsAnswer → Answer PlanCounts
-weights_answered (Weights.Given d1 d2 count) = given (record { d1 = d1; d2 = d2; count = count })
-weights_answered (Weights.Refused number) = refused number
+abbrev pub counts_seen : PlanCounts → PlanFields.PlanCounts
+counts_seen c = record { d1 = c.d1; d2 = c.d2; count = c.count }

@@ -1,3 +1,4 @@
+pub mod KindNumbers
 pub mod Records
 mod Packed
 pub mod Headers

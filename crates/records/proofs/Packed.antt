@@ -1,5 +1,5 @@
 -- Records fill whole bytes: where their bits are put, their bytes are placed.
-use Prim.Native.Nat.{ℕ, zero, suc, ◌+◌, ◌*◌, ◌≤◌}
+use Prim.Native.Nat.{ℕ, ◌+◌, ◌*◌, ◌≤◌}
 use mathlib.Core.Path.{◌≡◌, refl, ap, ◌∙◌}
 use mathlib.Core.List.{List, ◌++◌}
 use native.Mathlib.Omega.{arith}
@@ -16,7 +16,7 @@ use Rattle.records.specs.declared.game_file.Payload.{Payload}
 use Rattle.records.specs.declared.game_file.NodeRecord.{NodeRecord}
 use Rattle.records.specs.declared.plan_file.PlanHeader.{PlanHeader}
 use Rattle.records.specs.PlanRecords.{plan_header_bits}
-use Rattle.records.specs.Records.{header_bits, entry_bits, payload_bits, node_bits}
+use Rattle.records.specs.Records.{header_bits, entry_bits, kind_number, kind_in, payload_bits, node_bits}
 
 -- bits that fill k bytes, put from the first bit of a byte on
 filled : (k from at : ℕ) (l out : List ℕ) {after : List ℕ} → BitList (8 * k) l → at ≡ 8 * from → from + k ≤ length out → after ≡ bits_put out at l → after ≡ placed from (packed k l) out
@@ -37,28 +37,23 @@ unfolding entry_bits
 entry_filled x h at out e room put = filled 1 (5 + h) at (entry_bits x) out (bitlist_append (bitlist_bits 1 x.player) (bitlist_bits 7 x.moves)) (omega (arith, e)) room put
 
 -- a payload has 32 bits
-payload_are : (kind : ℕ) (x : Payload) → BitList 32 (payload_bits kind x)
+payload_are : (x : Payload) → BitList 32 (payload_bits x)
 unfolding payload_bits
-payload_are zero x = bitlist_append (bitlist_bits 16 _) (bitlist_bits 16 _)
-payload_are (suc zero) x = bitlist_append (bitlist_bits 12 _) (bitlist_bits 20 _)
-payload_are (suc (suc k)) x = bitlist_append (bitlist_bits 7 _) (bitlist_bits 25 _)
-
--- any kind but a leaf's and a decision's has a move count
-pub chance_bits : (kind : ℕ) (x : Payload) → ¬ (kind ≡ 0) → ¬ (kind ≡ 1) → payload_bits kind x ≡ bits 7 x.moves ++ bits 25 x.padding
-unfolding payload_bits
-chance_bits zero x a b = absurd (a refl)
-chance_bits (suc zero) x a b = absurd (b refl)
-chance_bits (suc (suc k)) x a b = refl
+payload_are (Payload.Leaf payoff1 payoff2) = bitlist_append (bitlist_bits 16 _) (bitlist_bits 16 _)
+payload_are (Payload.Decision set padding) = bitlist_append (bitlist_bits 12 _) (bitlist_bits 20 _)
+payload_are (Payload.Chance moves padding) = bitlist_append (bitlist_bits 7 _) (bitlist_bits 25 _)
+payload_are Payload.Unknown = bitlist_append (bitlist_bits 7 _) (bitlist_bits 25 _)
 
 -- the fields of a node record, and its payload after them
-pub node_filled : (x : NodeRecord) (from at : ℕ) (out : List ℕ) {front after : List ℕ} → at ≡ 8 * from → from + 8 ≤ length out → front ≡ bits_put out at (bits 2 x.kind ++ bits 12 x.parent ++ bits 6 x.place ++ bits 12 x.weight) → after ≡ bits_put front (at + 32) (payload_bits x.kind x.payload) → after ≡ placed from (packed 8 (node_bits x)) out
+pub node_filled : (x : NodeRecord) (from at kind : ℕ) (out : List ℕ) {front after : List ℕ} → kind ≡ kind_number (kind_in x.payload) → at ≡ 8 * from → from + 8 ≤ length out → front ≡ bits_put out at (bits 2 kind ++ bits 12 x.parent ++ bits 6 x.place ++ bits 12 x.weight) → after ≡ bits_put front (at + 32) (payload_bits x.payload) → after ≡ placed from (packed 8 (node_bits x)) out
 unfolding node_bits
-node_filled x from at out e room f g =
-    let fields = bits 2 x.kind ++ bits 12 x.parent ++ bits 6 x.place ++ bits 12 x.weight in
-    let payload = payload_bits x.kind x.payload in
+node_filled x from at kind out k e room f g =
+    let number = kind_number (kind_in x.payload) in
+    let fields = bits 2 number ++ bits 12 x.parent ++ bits 6 x.place ++ bits 12 x.weight in
+    let payload = payload_bits x.payload in
     let size : length fields ≡ 32 = simp (length-append, length_bits) in
     let both : bits_put (bits_put out at fields) (at + 32) payload ≡ bits_put out at (fields ++ payload) = rw size at (put_twice out at fields payload) in
-    filled 8 from at (node_bits x) out (bitlist_append (four 2 x.kind 12 x.parent 6 x.place 12 x.weight) (payload_are x.kind x.payload)) e room (rw (g, f, both))
+    filled 8 from at (node_bits x) out (bitlist_append (four 2 number 12 x.parent 6 x.place 12 x.weight) (payload_are x.payload)) e room (rw (g, f, k, both))
 
 -- a header of a plan file
 pub plan_header_filled : (x : PlanHeader) (out : List ℕ) {after : List ℕ} → 4 ≤ length out → after ≡ bits_put out 0 (plan_header_bits x) → after ≡ placed 0 (packed 4 (plan_header_bits x)) out

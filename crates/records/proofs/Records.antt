@@ -14,9 +14,8 @@ use Rattle.model.specs.Bits.{field, signed}
 use Rattle.model.specs.Game.{game_of, node_at, one, two, player_of, player_bit, is_leaf, is_decision, is_chance}
 use Rattle.model.specs.Writing.{payoff_field, player_field, set_field, moves_field}
 use Rattle.records.specs.declared.game_file.SetEntry.{SetEntry}
-use Rattle.records.specs.declared.game_file.Payload.{Payload}
 use Rattle.records.specs.declared.game_file.NodeRecord.{NodeRecord}
-use Rattle.records.specs.Records.{SetRead, NodeRead, payload_of}
+use Rattle.records.specs.Records.{SetRead, NodeRead, kind_of, set_in, moves_in, payoff1_in, payoff2_in, payload_by, payload_of}
 
 -- a number of 16 bits, read from its bits, fits 64, and is there the same number
 pub widens : {z : ℤ} → SFits w16 z → SFits w64 (to_z w16 (of_z w16 z))
@@ -41,30 +40,30 @@ other_kind : {A : Type 0} (k j : ℕ) (x y : A) → j ≤ 2 → y ≡ cond (eqb 
 other_kind k j x y l = sym (cond_no (eqb (suc (suc (suc k))) j) x y (λ t. omega (arith, eqb→eq (suc (suc (suc k))) j t)))
 
 -- a payload's set and moves, by kind
-set_by_kind : (bytes : List ℕ) (n kind : ℕ) → (payload_of bytes (node_at bytes n + 32) kind).set ≡ cond (eqb kind 1) ((game_of bytes).node_set n) 0
-unfolding payload_of game_of
+set_by_kind : (bytes : List ℕ) (n kind : ℕ) → set_in (payload_of bytes (node_at bytes n + 32) kind) ≡ cond (eqb kind 1) ((game_of bytes).node_set n) 0
+unfolding set_in kind_of payload_by payload_of game_of
 set_by_kind bytes n zero = refl
 set_by_kind bytes n (suc zero) = refl
 set_by_kind bytes n (suc (suc zero)) = refl
 set_by_kind bytes n (suc (suc (suc k))) = other_kind k 1 _ 0 (omega arith)
 
-pub moves_by_kind : (bytes : List ℕ) (n kind : ℕ) → (payload_of bytes (node_at bytes n + 32) kind).moves ≡ cond (eqb kind 2) ((game_of bytes).chance_moves n) 0
-unfolding payload_of game_of
+pub moves_by_kind : (bytes : List ℕ) (n kind : ℕ) → moves_in (payload_of bytes (node_at bytes n + 32) kind) ≡ cond (eqb kind 2) ((game_of bytes).chance_moves n) 0
+unfolding moves_in kind_of payload_by payload_of game_of
 moves_by_kind bytes n zero = refl
 moves_by_kind bytes n (suc zero) = refl
 moves_by_kind bytes n (suc (suc zero)) = refl
 moves_by_kind bytes n (suc (suc (suc k))) = other_kind k 2 _ 0 (omega arith)
 
 -- a payload's payoffs, by kind
-payoff1_by_kind : (bytes : List ℕ) (n kind : ℕ) → (payload_of bytes (node_at bytes n + 32) kind).payoff1 ≡ cond (eqb kind 0) ((game_of bytes).payoff one n) (pos 0)
-unfolding payload_of game_of
+payoff1_by_kind : (bytes : List ℕ) (n kind : ℕ) → payoff1_in (payload_of bytes (node_at bytes n + 32) kind) ≡ cond (eqb kind 0) ((game_of bytes).payoff one n) (pos 0)
+unfolding payoff1_in kind_of payload_by payload_of game_of
 payoff1_by_kind bytes n zero = refl
 payoff1_by_kind bytes n (suc zero) = refl
 payoff1_by_kind bytes n (suc (suc zero)) = refl
 payoff1_by_kind bytes n (suc (suc (suc k))) = other_kind k 0 _ (pos 0) (omega arith)
 
-payoff2_by_kind : (bytes : List ℕ) (n kind : ℕ) → (payload_of bytes (node_at bytes n + 32) kind).payoff2 ≡ cond (eqb kind 0) ((game_of bytes).payoff two n) (pos 0)
-unfolding payload_of game_of
+payoff2_by_kind : (bytes : List ℕ) (n kind : ℕ) → payoff2_in (payload_of bytes (node_at bytes n + 32) kind) ≡ cond (eqb kind 0) ((game_of bytes).payoff two n) (pos 0)
+unfolding payoff2_in kind_of payload_by payload_of game_of
 payoff2_by_kind bytes n zero =
     let e : node_at bytes n + 32 + 16 ≡ node_at bytes n + 48 = omega arith in
     ap (λ (i : ℕ). signed 16 (field bytes i 16)) e
@@ -74,18 +73,18 @@ payoff2_by_kind bytes n (suc (suc (suc k))) = other_kind k 0 _ (pos 0) (omega ar
 
 -- what a node record has by its kind
 module _ (bytes : List ℕ) (n : ℕ) (r : NodeRecord) (e : NodeRead bytes n r) where
-  pub node_set_lem : r.payload.set ≡ set_field (game_of bytes) n
+  pub node_set_lem : set_in r.payload ≡ set_field (game_of bytes) n
   unfolding set_field is_decision
-  node_set_lem = ap (λ (x : Payload). x.set) e.payload ∙ set_by_kind bytes n ((game_of bytes).kind n)
+  node_set_lem = ap set_in e.payload ∙ set_by_kind bytes n ((game_of bytes).kind n)
 
-  pub node_moves_lem : r.payload.moves ≡ moves_field (game_of bytes) n
+  pub node_moves_lem : moves_in r.payload ≡ moves_field (game_of bytes) n
   unfolding moves_field is_chance
-  node_moves_lem = ap (λ (x : Payload). x.moves) e.payload ∙ moves_by_kind bytes n ((game_of bytes).kind n)
+  node_moves_lem = ap moves_in e.payload ∙ moves_by_kind bytes n ((game_of bytes).kind n)
 
-  pub node_payoff1 : r.payload.payoff1 ≡ payoff_field (game_of bytes) one n
+  pub node_payoff1 : payoff1_in r.payload ≡ payoff_field (game_of bytes) one n
   unfolding payoff_field is_leaf
-  node_payoff1 = ap (λ (x : Payload). x.payoff1) e.payload ∙ payoff1_by_kind bytes n ((game_of bytes).kind n)
+  node_payoff1 = ap payoff1_in e.payload ∙ payoff1_by_kind bytes n ((game_of bytes).kind n)
 
-  pub node_payoff2 : r.payload.payoff2 ≡ payoff_field (game_of bytes) two n
+  pub node_payoff2 : payoff2_in r.payload ≡ payoff_field (game_of bytes) two n
   unfolding payoff_field is_leaf
-  node_payoff2 = ap (λ (x : Payload). x.payoff2) e.payload ∙ payoff2_by_kind bytes n ((game_of bytes).kind n)
+  node_payoff2 = ap payoff2_in e.payload ∙ payoff2_by_kind bytes n ((game_of bytes).kind n)

@@ -4,6 +4,7 @@ use Rattle.model.specs.Bits.{field, signed, bits, twos_complement}
 use Rattle.model.specs.Game.{game_of, node_at, set_at}
 use Rattle.records.specs.declared.game_file.Header.{Header}
 use Rattle.records.specs.declared.game_file.SetEntry.{SetEntry}
+use Rattle.records.specs.declared.game_file.Kind.{Kind}
 use Rattle.records.specs.declared.game_file.Payload.{Payload}
 use Rattle.records.specs.declared.game_file.NodeRecord.{NodeRecord}
 
@@ -36,50 +37,98 @@ pub record SetRead (bytes : List ℕ) (h : ℕ) (r : SetEntry) : Type 0 where
 unfoldable pub entry_bits : SetEntry → List ℕ
 entry_bits x = bits 1 x.player ++ bits 7 x.moves
 
--- payloads, by kind
-abbrev pub leaf_payload : (payoff1 payoff2 : ℤ) → Payload
-leaf_payload payoff1 payoff2 = record { set = 0; moves = 0; payoff1 = payoff1; payoff2 = payoff2; padding = 0 }
+-- the number that stands for a kind
+unfoldable pub kind_number : Kind → ℕ
+kind_number Kind.Leaf = 0
+kind_number Kind.Decision = 1
+kind_number Kind.Chance = 2
+kind_number Kind.Unknown = 3
 
-abbrev pub decision_payload : (set padding : ℕ) → Payload
-decision_payload set padding = record { set = set; moves = 0; payoff1 = pos 0; payoff2 = pos 0; padding = padding }
+-- the kind that a number stands for
+unfoldable pub kind_of : ℕ → Kind
+kind_of zero = Kind.Leaf
+kind_of (suc zero) = Kind.Decision
+kind_of (suc (suc zero)) = Kind.Chance
+kind_of (suc (suc (suc k))) = Kind.Unknown
 
-abbrev pub chance_payload : (moves padding : ℕ) → Payload
-chance_payload moves padding = record { set = 0; moves = moves; payoff1 = pos 0; payoff2 = pos 0; padding = padding }
+-- the kind of a payload
+unfoldable pub kind_in : Payload → Kind
+kind_in (Payload.Leaf payoff1 payoff2) = Kind.Leaf
+kind_in (Payload.Decision set padding) = Kind.Decision
+kind_in (Payload.Chance moves padding) = Kind.Chance
+kind_in Payload.Unknown = Kind.Unknown
 
-abbrev pub no_payload : Payload
-no_payload = record { set = 0; moves = 0; payoff1 = pos 0; payoff2 = pos 0; padding = 0 }
+-- a decision's set, and 0 of any other kind
+unfoldable pub set_in : Payload → ℕ
+set_in (Payload.Leaf payoff1 payoff2) = 0
+set_in (Payload.Decision set padding) = set
+set_in (Payload.Chance moves padding) = 0
+set_in Payload.Unknown = 0
+
+-- a chance node's move count, likewise
+unfoldable pub moves_in : Payload → ℕ
+moves_in (Payload.Leaf payoff1 payoff2) = 0
+moves_in (Payload.Decision set padding) = 0
+moves_in (Payload.Chance moves padding) = moves
+moves_in Payload.Unknown = 0
+
+-- a leaf's payoff of player 1
+unfoldable pub payoff1_in : Payload → ℤ
+payoff1_in (Payload.Leaf payoff1 payoff2) = payoff1
+payoff1_in (Payload.Decision set padding) = pos 0
+payoff1_in (Payload.Chance moves padding) = pos 0
+payoff1_in Payload.Unknown = pos 0
+
+-- a leaf's payoff of player 2
+unfoldable pub payoff2_in : Payload → ℤ
+payoff2_in (Payload.Leaf payoff1 payoff2) = payoff2
+payoff2_in (Payload.Decision set padding) = pos 0
+payoff2_in (Payload.Chance moves padding) = pos 0
+payoff2_in Payload.Unknown = pos 0
+
+-- the number in the padding, 0 where there is none
+unfoldable pub padding_in : Payload → ℕ
+padding_in (Payload.Leaf payoff1 payoff2) = 0
+padding_in (Payload.Decision set padding) = padding
+padding_in (Payload.Chance moves padding) = padding
+padding_in Payload.Unknown = 0
 
 -- the payload that begins at a bit: two payoffs, a set and zeros, a move count and zeros
+unfoldable pub payload_by : List ℕ → (at : ℕ) → Kind → Payload
+payload_by bytes at Kind.Leaf = Payload.Leaf (signed 16 (field bytes at 16)) (signed 16 (field bytes (at + 16) 16))
+payload_by bytes at Kind.Decision = Payload.Decision (field bytes at 12) (field bytes (at + 12) 20)
+payload_by bytes at Kind.Chance = Payload.Chance (field bytes at 7) (field bytes (at + 7) 25)
+payload_by bytes at Kind.Unknown = Payload.Unknown
+
+-- by the number of the kind
 unfoldable pub payload_of : List ℕ → (at kind : ℕ) → Payload
-payload_of bytes at zero = leaf_payload (signed 16 (field bytes at 16)) (signed 16 (field bytes (at + 16) 16))
-payload_of bytes at (suc zero) = decision_payload (field bytes at 12) (field bytes (at + 12) 20)
-payload_of bytes at (suc (suc zero)) = chance_payload (field bytes at 7) (field bytes (at + 7) 25)
-payload_of bytes at (suc (suc (suc k))) = no_payload
+payload_of bytes at kind = payload_by bytes at (kind_of kind)
 
 -- the bits of a payload
-unfoldable pub payload_bits : (kind : ℕ) → Payload → List ℕ
-payload_bits zero x = bits 16 (twos_complement 16 x.payoff1) ++ bits 16 (twos_complement 16 x.payoff2)
-payload_bits (suc zero) x = bits 12 x.set ++ bits 20 x.padding
-payload_bits (suc (suc k)) x = bits 7 x.moves ++ bits 25 x.padding
+unfoldable pub payload_bits : Payload → List ℕ
+payload_bits (Payload.Leaf payoff1 payoff2) = bits 16 (twos_complement 16 payoff1) ++ bits 16 (twos_complement 16 payoff2)
+payload_bits (Payload.Decision set padding) = bits 12 set ++ bits 20 padding
+payload_bits (Payload.Chance moves padding) = bits 7 moves ++ bits 25 padding
+payload_bits Payload.Unknown = bits 7 0 ++ bits 25 0
 
 -- The record of node n, what its kind has, and the widths of its fields.
 pub record NodeRead (bytes : List ℕ) (n : ℕ) (r : NodeRecord) : Type 0 where
-  pub kind : r.kind ≡ (game_of bytes).kind n
+  pub kind : kind_number (kind_in r.payload) ≡ (game_of bytes).kind n
   pub parent : r.parent ≡ (game_of bytes).parent n
   pub place : r.place ≡ (game_of bytes).move n
   pub weight : r.weight ≡ (game_of bytes).weight n
   pub payload : r.payload ≡ payload_of bytes (node_at bytes n + 32) ((game_of bytes).kind n)
-  pub set : r.kind ≡ 1 → r.payload.set ≡ (game_of bytes).node_set n
-  pub kind_fits : r.kind < 4
+  pub set : kind_in r.payload ≡ Kind.Decision → set_in r.payload ≡ (game_of bytes).node_set n
+  pub kind_fits : kind_number (kind_in r.payload) < 4
   pub parent_fits : r.parent < 2 ^ 12
   pub place_fits : r.place < 64
   pub weight_fits : r.weight < 2 ^ 12
-  pub set_fits : r.payload.set < 2 ^ 12
-  pub moves_fit : r.payload.moves < 128
+  pub set_fits : set_in r.payload < 2 ^ 12
+  pub moves_fit : moves_in r.payload < 128
 
 -- the bits of a node record: kind, parent, move at the parent, weight, payload
 unfoldable pub node_bits : NodeRecord → List ℕ
-node_bits x = bits 2 x.kind ++ bits 12 x.parent ++ bits 6 x.place ++ bits 12 x.weight ++ payload_bits x.kind x.payload
+node_bits x = bits 2 (kind_number (kind_in x.payload)) ++ bits 12 x.parent ++ bits 6 x.place ++ bits 12 x.weight ++ payload_bits x.payload
 
 -- where the node records begin, and how many there are
 pub record Framed (bytes : List ℕ) (records nodes : ℕ) : Type 0 where

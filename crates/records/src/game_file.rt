@@ -5,7 +5,7 @@ ghost use Rattle.model.specs.Bits.{field, packed};
 ghost use Rattle.model.specs.Game.{game_of, node_at, node_moves};
 ghost use Rattle.model.specs.GameChecks.{is_move_count_of};
 ghost use Rattle.bits.specs.Puts.{bits_put};
-ghost use Rattle.records.specs.Records.{header_of, header_with, header_bits, SetRead, entry_bits, payload_of, leaf_payload, decision_payload, chance_payload, no_payload, payload_bits, NodeRead, node_bits};
+ghost use Rattle.records.specs.Records.{header_of, header_with, header_bits, SetRead, entry_bits, kind_number, kind_of, kind_in, set_in, moves_in, payoff1_in, payoff2_in, payload_by, payload_bits, NodeRead, node_bits};
 
 use bit_reader::Pair;
 
@@ -76,10 +76,7 @@ impl Header {
         let root_weight = bits::cut(word, 0, Header::COUNT_BITS);
         Header {
             edition,
-            nodes,
-            sets,
-            root_weight,
-            records: Header::BITS + SetEntry::BITS * sets,
+            ..Header::new(nodes, sets, root_weight)
         }
     }
 
@@ -88,22 +85,21 @@ impl Header {
         requires { 5 ≤ length out.old }
         ensures { out.new ≡ placed 0 (packed 5 (header_bits self)) out.old }
     {
-        bit_writer::put_four(
+        bit_writer::put_fields(
             out,
             0,
-            Header::EDITION_BITS,
-            self.edition,
-            Header::COUNT_BITS,
-            self.nodes as u64,
-            Header::COUNT_BITS,
-            self.sets as u64,
-            Header::COUNT_BITS,
-            self.root_weight,
+            &[
+                (Header::EDITION_BITS, self.edition),
+                (Header::COUNT_BITS, self.nodes as u64),
+                (Header::COUNT_BITS, self.sets as u64),
+                (Header::COUNT_BITS, self.root_weight),
+            ],
         );
     }
 }
 
 // The entry of an information set.
+// The player is 0 or 1, as the C interface gives it and a loaded game holds it: callers only hand it on, so an enum would be no plainer.
 #[derive(Clone, Copy)]
 pub struct SetEntry {
     pub player: u64,
@@ -142,25 +138,58 @@ impl SetEntry {
         requires { (h < 2 ^ 12) × (5 + h < length out.old) }
         ensures { out.new ≡ placed (5 + h) (packed 1 (entry_bits self)) out.old }
     {
-        bit_writer::put_two(
+        bit_writer::put_fields(
             out,
             Header::BITS + SetEntry::BITS * h,
-            SetEntry::PLAYER_BITS,
-            self.player,
-            SetEntry::MOVES_BITS,
-            self.moves as u64,
+            &[
+                (SetEntry::PLAYER_BITS, self.player),
+                (SetEntry::MOVES_BITS, self.moves as u64),
+            ],
         );
     }
 }
 
-// What a node's kind has; a number that it lacks is 0.
-#[derive(Clone, Copy)]
-pub struct Payload {
-    pub set: usize,
-    pub moves: usize,
-    pub payoff1: i16,
-    pub payoff2: i16,
-    pub padding: u64,
+// What a node is.
+#[derive(Clone, Copy, PartialEq, Eq)]
+pub enum Kind {
+    Leaf,
+    Decision,
+    Chance,
+    // The kind that no node has: a record with it is read too and refused later, by its check, so an Option around a kind would be no plainer.
+    Unknown,
+}
+
+impl Kind {
+    // The number that stands for it.
+    #[tactic(auto, unfolding(crate::specs::Records::kind_number))]
+    pub fn number(self) -> u64
+        ensures { result ≡ kind_number self }
+    {
+        self as u64
+    }
+}
+
+impl From<u64> for Kind {
+    ghost from_gives = { λ number kind. kind ≡ kind_of number };
+
+    #[tactic(auto, unfolding(crate::specs::Records::kind_of))]
+    fn from(number: u64) -> Kind {
+        match number {
+            0 => Kind::Leaf,
+            1 => Kind::Decision,
+            2 => Kind::Chance,
+            _ => Kind::Unknown,
+        }
+    }
+}
+
+// What a node has by its kind. The padding after a set or a move count is read, since a check asks that it is zero.
+#[derive(Clone, Copy, PartialEq, Eq)]
+pub enum Payload {
+    Leaf { payoff1: i16, payoff2: i16 },
+    Decision { set: usize, padding: u64 },
+    Chance { moves: usize, padding: u64 },
+    Unknown,
 }
 
 impl Payload {
@@ -183,123 +212,115 @@ impl Payload {
 
     pub const MOVES_PADDING: usize = Payload::BITS - Payload::MOVES_BITS;
 
-    pub const LEAF: u64 = 0;
-
-    pub const DECISION: u64 = 1;
-
-    pub const CHANCE: u64 = 2;
-
-    // The kind that no node has.
-    pub const NO_KIND: u64 = 3;
-
-    // What a leaf has.
-    fn leaf(payoff1: i16, payoff2: i16) -> Self
-        ensures { result ≡ leaf_payload payoff1 payoff2 }
+    #[tactic(auto, unfolding(crate::specs::Records::kind_in))]
+    pub fn kind(self) -> Kind
+        ensures { result ≡ kind_in self }
     {
-        Payload {
-            set: 0,
-            moves: 0,
-            payoff1,
-            payoff2,
-            padding: 0,
+        match self {
+            Payload::Leaf { .. } => Kind::Leaf,
+            Payload::Decision { .. } => Kind::Decision,
+            Payload::Chance { .. } => Kind::Chance,
+            Payload::Unknown => Kind::Unknown,
         }
     }
 
-    // What a decision has.
-    fn decision(set: usize, padding: u64) -> Self
-        ensures { result ≡ decision_payload set padding }
+    // A decision's set, and 0 of any other kind; the other fields likewise.
+    #[tactic(auto, unfolding(crate::specs::Records::set_in))]
+    pub fn set(self) -> usize
+        ensures { result ≡ set_in self }
     {
-        Payload {
-            set,
-            moves: 0,
-            payoff1: 0,
-            payoff2: 0,
-            padding,
+        match self {
+            Payload::Decision { set, .. } => set,
+            _ => 0,
         }
     }
 
-    // What a chance node has.
-    fn chance(moves: usize, padding: u64) -> Self
-        ensures { result ≡ chance_payload moves padding }
+    #[tactic(auto, unfolding(crate::specs::Records::moves_in))]
+    pub fn moves(self) -> usize
+        ensures { result ≡ moves_in self }
     {
-        Payload {
-            set: 0,
-            moves,
-            payoff1: 0,
-            payoff2: 0,
-            padding,
+        match self {
+            Payload::Chance { moves, .. } => moves,
+            _ => 0,
         }
     }
 
-    // What a kind that does not exist has.
-    fn none() -> Self
-        ensures { result ≡ no_payload }
+    #[tactic(auto, unfolding(crate::specs::Records::payoff1_in, crate::specs::Records::payoff2_in))]
+    pub fn payoffs(self) -> (i16, i16)
+        ensures { result ≡ (payoff1_in self, payoff2_in self) }
     {
-        Payload {
-            set: 0,
-            moves: 0,
-            payoff1: 0,
-            payoff2: 0,
-            padding: 0,
+        match self {
+            Payload::Leaf { payoff1, payoff2 } => (payoff1, payoff2),
+            _ => (0, 0),
         }
     }
 
     // The payload in a word of its bits, by the node's kind.
-    fn read(word: u64, kind: u64) -> Self
-        ensures { (bytes : List ℕ) (at : ℕ) → word ≡ field bytes at 32 → result ≡ payload_of bytes at kind }
+    fn read(word: u64, kind: Kind) -> Self
+        ensures { (bytes : List ℕ) (at : ℕ) → word ≡ field bytes at 32 → result ≡ payload_by bytes at kind }
     {
-        if kind == Payload::LEAF {
-            let first = bits::cut(word, Payload::PAYOFF_BITS, Payload::PAYOFF_BITS);
-            let second = bits::cut(word, 0, Payload::PAYOFF_BITS);
-            return Payload::leaf(bits::signed16(first), bits::signed16(second));
+        match kind {
+            Kind::Leaf => {
+                let first = bits::cut(word, Payload::PAYOFF_BITS, Payload::PAYOFF_BITS);
+                let second = bits::cut(word, 0, Payload::PAYOFF_BITS);
+                Payload::Leaf {
+                    payoff1: bits::signed16(first),
+                    payoff2: bits::signed16(second),
+                }
+            }
+            Kind::Decision => {
+                let set = bits::cut(word, Payload::SET_PADDING, Payload::SET_BITS) as usize;
+                let padding = bits::cut(word, 0, Payload::SET_PADDING);
+                Payload::Decision { set, padding }
+            }
+            Kind::Chance => {
+                let moves = bits::cut(word, Payload::MOVES_PADDING, Payload::MOVES_BITS) as usize;
+                let padding = bits::cut(word, 0, Payload::MOVES_PADDING);
+                Payload::Chance { moves, padding }
+            }
+            Kind::Unknown => Payload::Unknown,
         }
-        if kind == Payload::DECISION {
-            let set = bits::cut(word, Payload::SET_PADDING, Payload::SET_BITS) as usize;
-            let padding = bits::cut(word, 0, Payload::SET_PADDING);
-            return Payload::decision(set, padding);
-        }
-        if kind == Payload::CHANCE {
-            let moves = bits::cut(word, Payload::MOVES_PADDING, Payload::MOVES_BITS) as usize;
-            let padding = bits::cut(word, 0, Payload::MOVES_PADDING);
-            return Payload::chance(moves, padding);
-        }
-        Payload::none()
     }
 
-    // Puts the payload from bit `at` on, by the node's kind.
-    fn put(self, out: &mut [u8], at: usize, kind: u64)
+    // Puts the payload from bit `at` on.
+    fn put(self, out: &mut [u8], at: usize)
         requires { (at < 1000000) × (at + 32 ≤ 8 * length out.old) }
-        ensures { out.new ≡ bits_put out.old at (payload_bits kind self) }
+        ensures { out.new ≡ bits_put out.old at (payload_bits self) }
     {
-        if kind == Payload::LEAF {
-            let first = bits::unsigned16(self.payoff1);
-            let second = bits::unsigned16(self.payoff2);
-            bit_writer::put_two(
+        match self {
+            Payload::Leaf { payoff1, payoff2 } => {
+                let first = bits::unsigned16(payoff1);
+                let second = bits::unsigned16(payoff2);
+                bit_writer::put_fields(
+                    out,
+                    at,
+                    &[
+                        (Payload::PAYOFF_BITS, first),
+                        (Payload::PAYOFF_BITS, second),
+                    ],
+                );
+            }
+            Payload::Decision { set, padding } => bit_writer::put_fields(
                 out,
                 at,
-                Payload::PAYOFF_BITS,
-                first,
-                Payload::PAYOFF_BITS,
-                second,
-            );
-        } else if kind == Payload::DECISION {
-            bit_writer::put_two(
+                &[
+                    (Payload::SET_BITS, set as u64),
+                    (Payload::SET_PADDING, padding),
+                ],
+            ),
+            Payload::Chance { moves, padding } => bit_writer::put_fields(
                 out,
                 at,
-                Payload::SET_BITS,
-                self.set as u64,
-                Payload::SET_PADDING,
-                self.padding,
-            );
-        } else {
-            bit_writer::put_two(
+                &[
+                    (Payload::MOVES_BITS, moves as u64),
+                    (Payload::MOVES_PADDING, padding),
+                ],
+            ),
+            Payload::Unknown => bit_writer::put_fields(
                 out,
                 at,
-                Payload::MOVES_BITS,
-                self.moves as u64,
-                Payload::MOVES_PADDING,
-                self.padding,
-            );
+                &[(Payload::MOVES_BITS, 0), (Payload::MOVES_PADDING, 0)],
+            ),
         }
     }
 }
@@ -307,7 +328,6 @@ impl Payload {
 // The record of a node; `place` is its move at the parent.
 #[derive(Clone, Copy)]
 pub struct NodeRecord {
-    pub kind: u64,
     pub parent: usize,
     pub place: usize,
     pub weight: u64,
@@ -355,13 +375,12 @@ impl NodeRecord {
         let at = records + NodeRecord::BITS * n;
         let halves = Pair::read(bytes, at, NodeRecord::FRONT_BITS, Payload::BITS);
         let front = halves.first;
-        let kind = bits::cut(front, NodeRecord::BELOW_KIND, NodeRecord::KIND_BITS);
+        let kind = Kind::from(bits::cut(front, NodeRecord::BELOW_KIND, NodeRecord::KIND_BITS));
         let parent = bits::cut(front, NodeRecord::BELOW_PARENT, NodeRecord::PARENT_BITS) as usize;
         let place = bits::cut(front, NodeRecord::BELOW_PLACE, NodeRecord::PLACE_BITS) as usize;
         let weight = bits::cut(front, 0, NodeRecord::WEIGHT_BITS);
         let payload = Payload::read(halves.second, kind);
         NodeRecord {
-            kind,
             parent,
             place,
             weight,
@@ -375,20 +394,17 @@ impl NodeRecord {
         ensures { out.new ≡ placed (records / 8 + 8 * n) (packed 8 (node_bits self)) out.old }
     {
         let at = records + NodeRecord::BITS * n;
-        bit_writer::put_four(
+        bit_writer::put_fields(
             out,
             at,
-            NodeRecord::KIND_BITS,
-            self.kind,
-            NodeRecord::PARENT_BITS,
-            self.parent as u64,
-            NodeRecord::PLACE_BITS,
-            self.place as u64,
-            NodeRecord::WEIGHT_BITS,
-            self.weight,
+            &[
+                (NodeRecord::KIND_BITS, self.payload.kind().number()),
+                (NodeRecord::PARENT_BITS, self.parent as u64),
+                (NodeRecord::PLACE_BITS, self.place as u64),
+                (NodeRecord::WEIGHT_BITS, self.weight),
+            ],
         );
-        self.payload
-            .put(out, at + NodeRecord::FRONT_BITS, self.kind);
+        self.payload.put(out, at + NodeRecord::FRONT_BITS);
     }
 }
 
@@ -396,11 +412,7 @@ impl NodeRecord {
 pub fn is_move_count(moves: usize) -> bool
     ensures { result ≡ is_move_count_of moves }
 {
-    if 1 <= moves {
-        moves <= SetEntry::MOVES
-    } else {
-        false
-    }
+    (1..=SetEntry::MOVES).contains(&moves)
 }
 
 // How many moves node `n` has: its set's, its own, or none.
@@ -408,10 +420,9 @@ pub fn move_count(bytes: &[u8], records: usize, n: usize) -> usize
     requires { (records ≡ node_at bytes.now 0) × (n < 2 ^ 12) }
     ensures { result ≡ node_moves (game_of bytes.now) n }
 {
-    let node = NodeRecord::read(bytes, records, n);
-    if node.kind == Payload::DECISION {
-        let entry = SetEntry::read(bytes, node.payload.set);
-        return entry.moves;
+    match NodeRecord::read(bytes, records, n).payload {
+        Payload::Decision { set, .. } => SetEntry::read(bytes, set).moves,
+        Payload::Chance { moves, .. } => moves,
+        Payload::Leaf { .. } | Payload::Unknown => 0,
     }
-    node.payload.moves
 }

@@ -4,5 +4,5 @@
 pub mod game_file;
 pub mod plan_file;
 
-pub use game_file::{Header, NodeRecord, Payload, SetEntry, is_move_count, move_count};
+pub use game_file::{Header, Kind, NodeRecord, Payload, SetEntry, is_move_count, move_count};
 pub use plan_file::{Denominators, PlanHeader};

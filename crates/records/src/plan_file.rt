@@ -44,6 +44,7 @@ impl PlanHeader {
     pub const WEIGHT_BITS: usize = 12;
 
     // The bytes of the longest file: every node but the root is a player's move.
+    // Not by `file_bytes`: a constant is an expression of operators on constants, with no call.
     pub const LONGEST_FILE: usize = PlanHeader::BYTES
         + (PlanHeader::WEIGHT_BITS * (NodeRecord::NODES - 1) + 7) / 8;
 
@@ -63,7 +64,7 @@ impl PlanHeader {
         requires { 12 * weights + 7 < 2 ^ 64 }
         ensures { result ≡ 4 + (12 * weights + 7) / 8 }
     {
-        PlanHeader::BYTES + (PlanHeader::WEIGHT_BITS * weights + 7) / 8
+        PlanHeader::BYTES + (PlanHeader::WEIGHT_BITS * weights).div_ceil(8)
     }
 
     // The bit at which weight `i` begins, in file order.
@@ -95,17 +96,15 @@ impl PlanHeader {
         requires { 4 ≤ length out.old }
         ensures { out.new ≡ placed 0 (packed 4 (plan_header_bits self)) out.old }
     {
-        bit_writer::put_four(
+        bit_writer::put_fields(
             out,
             0,
-            PlanHeader::EDITION_BITS,
-            self.edition,
-            PlanHeader::DENOMINATOR_BITS,
-            self.denominators.d1,
-            PlanHeader::DENOMINATOR_BITS,
-            self.denominators.d2,
-            PlanHeader::ZERO_BITS,
-            self.zeros,
+            &[
+                (PlanHeader::EDITION_BITS, self.edition),
+                (PlanHeader::DENOMINATOR_BITS, self.denominators.d1),
+                (PlanHeader::DENOMINATOR_BITS, self.denominators.d2),
+                (PlanHeader::ZERO_BITS, self.zeros),
+            ],
         );
     }
 }

@@ -22,7 +22,7 @@ module _ (g : Game) (q : PlanPair) where
   values_are = sym (append_assoc (value_line g q one ++ value_line g q two) (best_line g q one) (best_line g q two))
 
   -- Players and moves by set whose lines are those of the best responses.
-  module _ (numbers moves1 moves2 : List ℕ) (first : strategy_lines numbers g.sets 0 moves1 ≡ flat_map move_line (best_response g one (q two))) (second : strategy_lines numbers g.sets 1 moves2 ≡ flat_map move_line (best_response g two (q one))) where
+  module _ (numbers moves1 moves2 : List ℕ) (first : strategy_lines numbers g.sets one moves1 ≡ flat_map move_line (best_response g one (q two))) (second : strategy_lines numbers g.sets two moves2 ≡ flat_map move_line (best_response g two (q one))) where
     verdict_is : verdict_text numbers g.sets (value_base g q) (without_moves (verdict g q)) moves1 moves2 ≡ verdict_lines g q (verdict g q)
     unfolding verdict deviation_of verdict_text deviation_text amount_line verdict_lines
     verdict_is = go (lt_z (pos 0) (gain g q one)) (lt_z (pos 0) (gain g q two))

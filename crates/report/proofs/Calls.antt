@@ -18,10 +18,11 @@ use Rattle.model.specs.Calls.Report as Call
 use Rattle.model.specs.Calls.RefusalLine as Line
 use Rattle.model.proofs.Budget.{base_bound, budget, game_limits, plan_limits}
 use Rattle.model.proofs.Checks.{game_rules, plan_rules, pair_parts, pair_refusal_lem, pair_named}
-use Rattle.checks.specs.declared.Checked.{Checked}
-use Rattle.checks.specs.declared.Checked.TheVariants.{Fine, Broken}
-use Rattle.checks.specs.Checked.{checked_of, number_of}
-use Rattle.checks.proofs.Chains.{begin, ends, call_refuses, call_gives, same_run}
+use Rattle.std.specs.Prelude.{Option, Ok, Err}
+use Rattle.checks.specs.declared.Refusal.{Refusal}
+use Rattle.checks.specs.declared.Refusal.TheVariants.{Room}
+use Rattle.checks.specs.Answers.{refusal_number, checked_of}
+use Rattle.checks.proofs.Chains.{Checked, begin, ends, call_refuses, call_gives, same_run}
 use Rattle.checks.proofs.Files.{pair_refuses, pair_fine}
 use Rattle.model.proofs.Rows.{refusal_below}
 use Rattle.checks.proofs.OneBuffer.{one_short, one_given}
@@ -29,7 +30,7 @@ use Rattle.records.proofs.Widths.{few_sets}
 use Rattle.pair.specs.declared.PairHeader.{PairHeader}
 use Rattle.form.specs.declared.Values.{Values}
 use Rattle.pair.proofs.PairDenominators.{d1_is, d2_is}
-use Rattle.judgement.specs.declared.Verdict.{Verdict}
+use Rattle.judgement.specs.declared.Deviation.{Deviation}
 use Rattle.judgement.specs.Judgement.{judged}
 use Rattle.evaluation.proofs.EvaluatedPairs.{EvaluationOpened, weight_is, sets_are}
 use Rattle.verdict.proofs.VerdictAnswered.{judge_asks, judged_as}
@@ -42,12 +43,12 @@ use Rattle.report.proofs.Agreement.{report_is}
 use Rattle.report.proofs.Longest.{report_most}
 
 -- A text that is given, by check 18 of its length.
-module _ (text buffer : List ℕ) {r : Checked} (checked : r ≡ checked_of 18 (leb (length text) (length buffer))) where
-  pub text_short : {n m : ℕ} → r ≡ Broken n → m ≡ number_of r → outcome (refused m) (buffer, tt) ≡ run giving text (buffer, tt)
+module _ (text buffer : List ℕ) {r : Checked} (checked : r ≡ checked_of Room (leb (length text) (length buffer))) where
+  pub text_short : {d : Refusal} → r ≡ Err d → outcome (refused (refusal_number d)) (buffer, tt) ≡ run giving text (buffer, tt)
   unfolding giving
-  text_short f g = one_short giving tt text buffer (ends (begin [] text)) refl checked f g
+  text_short f = one_short giving tt text buffer (ends (begin [] text)) refl checked f
 
-  pub text_given : r ≡ Fine → {after : List ℕ} {n : ℕ} → Put 0 text buffer after n → outcome (given (length text)) (after, tt) ≡ run giving text (buffer, tt)
+  pub text_given : {u : Unit {0}} → r ≡ Ok u → {after : List ℕ} {n : ℕ} → Put 0 text buffer after n → outcome (given (length text)) (after, tt) ≡ run giving text (buffer, tt)
   unfolding giving
   text_given f put = one_given giving tt text buffer (ends (begin [] text)) refl checked f put.buffer
 
@@ -118,11 +119,11 @@ pair_ready game plan h e =
     }
 
 -- The report on what was evaluated and judged is the files'.
-pub report_agrees : (game plan : List ℕ) (h : PairHeader) {v : Values} {numbers moves1 moves2 : List ℕ} → EvaluationOpened game plan h v numbers moves1 moves2 → {d : Verdict} → d ≡ judged v.value1 v.value2 v.best1 v.best2 h.denominators.d1 h.denominators.d2 → pair_report numbers h v d moves1 moves2 ≡ Text.report_of game plan
+pub report_agrees : (game plan : List ℕ) (h : PairHeader) {v : Values} {numbers moves1 moves2 : List ℕ} → EvaluationOpened game plan h v numbers moves1 moves2 → {d : Option Deviation} → d ≡ judged v.value1 v.value2 v.best1 v.best2 h.denominators.d1 h.denominators.d2 → pair_report numbers h v d moves1 moves2 ≡ Text.report_of game plan
 unfolding Text.report_of
 report_agrees game plan h {v} {numbers} {moves1} {moves2} e j =
     let g = game_of game in
     let q = plan_pair_of g plan in
     let o = e.opened in
     rw (judged_as game plan h o e.values j, e.values, sets_are game plan h o, weight_is game plan h o, d1_is game plan h o, d2_is game plan h o)
-    (report_is g q numbers moves1 moves2 (strategy_lines_lem g e.players 0 (omega arith) (q two) e.best1) (strategy_lines_lem g e.players 1 (omega arith) (q one) e.best2))
+    (report_is g q numbers moves1 moves2 (strategy_lines_lem g e.players one (q two) e.best1) (strategy_lines_lem g e.players two (q one) e.best2))

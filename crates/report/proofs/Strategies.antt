@@ -1,12 +1,12 @@
 -- The lines of a player's sets: one by one as they are put, and those of the model's best response.
 use Prim.Native.Nat.{ℕ, zero, suc, ◌+◌, ◌*◌, ◌≤◌, ◌<◌}
 use mathlib.Core.Path.{◌≡◌, refl, sym, ap, ◌∙◌}
-use mathlib.Core.Bool.{Bool, cond}
+use mathlib.Core.Bool.{Bool, true, false, cond}
 use mathlib.Core.List.{List, [], ◌∷◌, ◌++◌, flat_map, append-nil, append_assoc}
 use native.Mathlib.Omega.{arith}
 use native.Mathlib.Decide.{ℕ_discrete}
 use native.Mathlib.Numerals.{add-one}
-use borrow.Author.Tests.{eq-eqb, ne_eqb}
+use denote.Enum.Bare.{sameb}
 use lib.Dec.{T}
 use lib.ListN.{length, length-append}
 use Rattle.algebra.specs.Arrays.{item, Holds}
@@ -14,14 +14,17 @@ use Rattle.algebra.specs.Sections.{Held}
 use Rattle.algebra.specs.Bounded.{join_to}
 use Rattle.algebra.proofs.Lists.{join_to_suc, join_to_cong}
 use Rattle.algebra.proofs.Tests.{dec, cond_yes, cond_no}
-use Rattle.model.specs.Game.{Game, Player, owns, player_of}
+use Rattle.model.specs.Game.{Game, Player, owns}
 use Rattle.model.specs.Sequences.{Move}
 use Rattle.model.specs.Plan.{RealizationPlan}
 use Rattle.model.specs.BestResponse.{best_move, best_at, best_response}
 use Rattle.model.specs.Report.{move_line}
 use Rattle.model.specs.Writing.{player_field}
 use Rattle.loaded.specs.Sections.{player_section}
-use Rattle.loaded.proofs.Owners.{owner_at}
+use Rattle.loaded.specs.Players.{as_player, owner_in}
+use Rattle.loaded.specs.contracts.Player.{the_type}
+use Rattle.loaded.specs.declared.Player as Code
+use Rattle.loaded.proofs.Owners.{same_read, owner_at}
 use Rattle.responses.specs.BestMoves.{own_best_move}
 use Rattle.text.specs.Text.{TextFits, Put}
 use Rattle.report.specs.Whole.{set_line, strategy_lines}
@@ -74,15 +77,15 @@ unfolding flat_map join_to
 flat_map_join_to f zero k = refl
 flat_map_join_to f (suc n) k = flat_map_append f (join_to n k) (k n) ∙ rw (flat_map_join_to f n k)
 
--- The line of set h, by the number that was read of its player.
-module _ (numbers : List ℕ) (player : ℕ) (moves : List ℕ) (h : ℕ) {r : ℕ} (read : r ≡ item numbers (player_section + h)) where
-  pub line_own : r ≡ player → set_line numbers player moves h ≡ move_line (h, item moves h)
+-- The line of set h, by the test of the owner that was read.
+module _ (numbers : List ℕ) (read p : Code.Player) (moves : List ℕ) (h : ℕ) (is : as_player read ≡ owner_in numbers h) where
+  pub line_own : true ≡ sameb the_type read p → set_line numbers (as_player p) moves h ≡ move_line (h, item moves h)
   unfolding set_line
-  line_own e = rw (eq-eqb (item numbers (player_section + h)) player (sym read ∙ e))
+  line_own e = rw (sym (e ∙ same_read read p is))
 
-  pub line_other : ¬ (r ≡ player) → set_line numbers player moves h ≡ []
+  pub line_other : false ≡ sameb the_type read p → set_line numbers (as_player p) moves h ≡ []
   unfolding set_line
-  line_other n = rw (ne_eqb (item numbers (player_section + h)) player (λ e. n (read ∙ e)))
+  line_other e = rw (sym (e ∙ same_read read p is))
 
 -- The best response of p to y.
 module _ (g : Game) (p : Player) (y : RealizationPlan) where
@@ -103,13 +106,10 @@ module _ (g : Game) (p : Player) (y : RealizationPlan) where
   response_lines = flat_map_join_to move_line g.sets (λ h. cond (owns g p h) (best_at g p y h) [])
 
 -- Where the players of a game's sets stand in the numbers and the moves are a player's best, his sets' lines are those of his best response.
-pub strategy_lines_lem : (g : Game) {numbers : List ℕ} → Held player_section (player_field g) g.sets numbers → (b : ℕ) → b < 2 → (y : RealizationPlan) {moves : List ℕ} → Holds (own_best_move g (player_of b) y) g.sets moves → strategy_lines numbers g.sets b moves ≡ flat_map move_line (best_response g (player_of b) y)
+pub strategy_lines_lem : (g : Game) {numbers : List ℕ} → Held player_section (player_field g) g.sets numbers → (p : Player) → (y : RealizationPlan) {moves : List ℕ} → Holds (own_best_move g p y) g.sets moves → strategy_lines numbers g.sets p moves ≡ flat_map move_line (best_response g p y)
 unfolding strategy_lines set_line own_best_move
-strategy_lines_lem g {numbers} players b few y {moves} held = join_to_cong g.sets _ _ (λ h l. ap (λ (own : Bool). cond own (move_line (h, item moves h)) []) (owner_at g players b h few l) ∙ at_set h l (dec (owns g p h))) ∙ sym (response_lines g p y)
+strategy_lines_lem g {numbers} players p y {moves} held = join_to_cong g.sets _ _ (λ h l. ap (λ (own : Bool). cond own (move_line (h, item moves h)) []) (owner_at g players l p) ∙ at_set h l (dec (owns g p h))) ∙ sym (response_lines g p y)
   where
-    p : Player
-    p = player_of b
-
     at_set : (h : ℕ) → h < g.sets → Dec (T (owns g p h)) → cond (owns g p h) (move_line (h, item moves h)) [] ≡ response_line g p y h
     at_set h l (yes o) =
         let best : item moves h ≡ best_move g p y h = held.at h l ∙ cond_yes (owns g p h) (best_move g p y h) 0 o in

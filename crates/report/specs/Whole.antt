@@ -1,16 +1,17 @@
 -- The whole report, by the numbers that it shows.
-use Rattle.std.specs.Prelude.{ℕ, suc, ◌+◌, ◌*◌, ◌≤◌, cond, List, [], ◌++◌, eqb, ℤ, pos, ◌*ℤ◌, length}
+use Rattle.std.specs.Prelude.{ℕ, ◌+◌, ◌*◌, ◌≤◌, cond, List, [], ◌++◌, ℤ, pos, ◌*ℤ◌, length, Option, Some, None}
 use Rattle.algebra.specs.Arrays.{item}
 use Rattle.algebra.specs.Bounded.{join_to}
+use Rattle.model.specs.Game.{Player, one, two, player_number}
 use Rattle.model.specs.Earnings.{Fraction, ◌over◌, base_of}
 use Rattle.model.specs.Report.{ascii, line, move_line}
 use Rattle.model.specs.Limits.{count_limit}
+use Rattle.loaded.specs.Players.{as_player}
 use Rattle.pair.specs.declared.PairHeader.{PairHeader}
 use Rattle.form.specs.declared.Values.{Values}
 use Rattle.judgement.specs.Judgement.{GainFits}
 use Rattle.judgement.specs.Strategy.{is_own}
-use Rattle.judgement.specs.declared.Verdict.{Verdict}
-use Rattle.judgement.specs.declared.Verdict.TheVariants.{Equilibrium, Deviation}
+use Rattle.judgement.specs.declared.Deviation.{Deviation}
 use Rattle.text.specs.Lines.{amount_line}
 
 -- one line for player 1 and one for player 2, over the same base
@@ -21,28 +22,30 @@ both_lines label count1 count2 base = amount_line label 1 (ascii " ") (count1 ov
 unfoldable pub values_text : Values → (d1 d2 base : ℕ) → List ℕ
 values_text v d1 d2 base = both_lines (ascii "value ") v.value1 v.value2 base ++ both_lines (ascii "best ") (pos d1 *ℤ v.best1) (pos d2 *ℤ v.best2) base
 
--- the line of set h, where it is the player's, with its move
-unfoldable pub set_line : (numbers : List ℕ) → (player : ℕ) → (moves : List ℕ) → (h : ℕ) → List ℕ
-set_line numbers player moves h = cond (is_own numbers player h) (move_line (h, item moves h)) []
+-- the line of set h, where it is p's, with its move
+unfoldable pub set_line : (numbers : List ℕ) → (p : Player) → (moves : List ℕ) → (h : ℕ) → List ℕ
+set_line numbers p moves h = cond (is_own numbers p h) (move_line (h, item moves h)) []
 
 -- "one line per set of that player, rising"
-unfoldable pub strategy_lines : (numbers : List ℕ) → (sets player : ℕ) → (moves : List ℕ) → List ℕ
-strategy_lines numbers sets player moves = join_to sets (set_line numbers player moves)
+unfoldable pub strategy_lines : (numbers : List ℕ) → (sets : ℕ) → (p : Player) → (moves : List ℕ) → List ℕ
+strategy_lines numbers sets p moves = join_to sets (set_line numbers p moves)
 
--- "the deviation with its player, its gain and one line per set of that player"; player 1's bit is 0, player 2's is 1
-unfoldable pub deviation_text : (numbers : List ℕ) → (sets player : ℕ) → (gain : Fraction) → (moves : List ℕ) → List ℕ
-deviation_text numbers sets player gain moves = amount_line (ascii "deviation player ") (suc player) (ascii " gain ") gain ++ strategy_lines numbers sets player moves
+-- "the deviation with its player, its gain and one line per set of that player"
+unfoldable pub deviation_text : (numbers : List ℕ) → (sets : ℕ) → (p : Player) → (gain : Fraction) → (moves : List ℕ) → List ℕ
+deviation_text numbers sets p gain moves = amount_line (ascii "deviation player ") (player_number p) (ascii " gain ") gain ++ strategy_lines numbers sets p moves
 
--- "then `accepted`, or the deviation": of player 1, or else of player 2
-unfoldable pub verdict_text : (numbers : List ℕ) → (sets base : ℕ) → Verdict → (moves1 moves2 : List ℕ) → List ℕ
-verdict_text numbers sets base Equilibrium moves1 moves2 = line (ascii "accepted")
-verdict_text numbers sets base (Deviation number gain) moves1 moves2 =
-    let first = deviation_text numbers sets 0 (gain over base) moves1 in
-    let second = deviation_text numbers sets 1 (gain over base) moves2 in
-    cond (eqb number 1) first second
+-- p's moves
+abbrev pub moves_of : (p : Player) → (moves1 moves2 : List ℕ) → List ℕ
+moves_of one moves1 moves2 = moves1
+moves_of two moves1 moves2 = moves2
+
+-- "then `accepted`, or the deviation": of its player, with his moves
+unfoldable pub verdict_text : (numbers : List ℕ) → (sets base : ℕ) → Option Deviation → (moves1 moves2 : List ℕ) → List ℕ
+verdict_text numbers sets base None moves1 moves2 = line (ascii "accepted")
+verdict_text numbers sets base (Some d) moves1 moves2 = let p = as_player d.player in deviation_text numbers sets p (d.gain over base) (moves_of p moves1 moves2)
 
 -- the whole report, by D0, D1 and D2
-unfoldable pub report_text : (numbers : List ℕ) → (sets root d1 d2 : ℕ) → Values → Verdict → (moves1 moves2 : List ℕ) → List ℕ
+unfoldable pub report_text : (numbers : List ℕ) → (sets root d1 d2 : ℕ) → Values → Option Deviation → (moves1 moves2 : List ℕ) → List ℕ
 report_text numbers sets root d1 d2 v verdict moves1 moves2 = values_text v d1 d2 (base_of root d1 d2) ++ verdict_text numbers sets (base_of root d1 d2) verdict moves1 moves2
 
 -- No report has more bytes. An amount has at most 38: a sign, 19 digits, " of ", and the 14 digits of 4,095 × 65,535 × 65,535.
@@ -51,7 +54,7 @@ abbrev pub most : ℕ
 most = 2 * 47 + 2 * 46 + 63 + 17 * count_limit
 
 -- the report of a pair that was read from its files, by the players of the sets
-abbrev pub pair_report : (numbers : List ℕ) → PairHeader → Values → Verdict → (moves1 moves2 : List ℕ) → List ℕ
+abbrev pub pair_report : (numbers : List ℕ) → PairHeader → Values → Option Deviation → (moves1 moves2 : List ℕ) → List ℕ
 pair_report numbers pair v verdict moves1 moves2 = report_text numbers pair.counts.sets pair.counts.root_weight pair.denominators.d1 pair.denominators.d2 v verdict moves1 moves2
 
 -- what `pair_report` needs: a player and two moves for every set of the game, and numbers that fit

@@ -5,7 +5,6 @@ ghost use Rattle.text.specs.Text.{Put};
 ghost use Rattle.report.specs.Whole.{most};
 
 use super::reports::report;
-use checks::WriteAnswer;
 use text::lines::put_refusal;
 
 // Puts what the program prints for two files at the start of a buffer that is long enough for any.
@@ -13,9 +12,8 @@ pub fn put_printed(game: &[u8], plan: &[u8], out: &mut [u8]) -> usize
     requires { most ≤ length out.old }
     ensures { Put 0 (printed game.now plan.now) out.old out.new result }
 {
-    let answer = report(game, plan, out);
-    match answer {
-        WriteAnswer::Written(size) => size,
-        WriteAnswer::Refused(number) => put_refusal(number, out, 0),
+    match report(game, plan, out) {
+        Ok(size) => size,
+        Err(refusal) => put_refusal(refusal.number(), out, 0),
     }
 }

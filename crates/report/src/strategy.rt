@@ -1,25 +1,26 @@
 // The strategy that is shown: a line for each of a player's sets, rising.
 ghost use Rattle.std.specs.Prelude.{◌≤◌, ◌<◌, length};
+ghost use Rattle.loaded.specs.Players.{as_player};
 ghost use Rattle.text.specs.Text.{TextFits, Put};
 ghost use Rattle.report.specs.Whole.{set_line, strategy_lines};
 
-use loaded::Section;
+use loaded::{Player, owner};
 use text::lines::put_move_line;
 
 // Puts the line of set `h`, where it is the player's.
 fn put_set(
     numbers: &[u16],
-    player: usize,
+    player: Player,
     h: usize,
     moves: &[u16],
     out: &mut [u8],
     at: usize,
 ) -> usize
-    requires { (h < length numbers.now) × (h < length moves.now) × TextFits at (set_line numbers.now player moves.now h) out.old }
-    ensures { Put at (set_line numbers.now player moves.now h) out.old out.new result }
+    requires { (h < length numbers.now) × (h < length moves.now) × TextFits at (set_line numbers.now (as_player player) moves.now h) out.old }
+    ensures { Put at (set_line numbers.now (as_player player) moves.now h) out.old out.new result }
 {
-    if loaded::number(numbers, Section::PLAYER, h) == player {
-        return put_move_line(h as u64, moves[h] as u64, out, at);
+    if owner(numbers, h) == player {
+        return put_move_line(h as u64, u64::from(moves[h]), out, at);
     }
     at
 }
@@ -28,19 +29,17 @@ fn put_set(
 pub fn put_strategy(
     numbers: &[u16],
     sets: usize,
-    player: usize,
+    player: Player,
     moves: &[u16],
     out: &mut [u8],
     at: usize,
 ) -> usize
-    requires { (sets ≤ length numbers.now) × (sets ≤ length moves.now) × TextFits at (strategy_lines numbers.now sets player moves.now) out.old }
-    ensures { Put at (strategy_lines numbers.now sets player moves.now) out.old out.new result }
+    requires { (sets ≤ length numbers.now) × (sets ≤ length moves.now) × TextFits at (strategy_lines numbers.now sets (as_player player) moves.now) out.old }
+    ensures { Put at (strategy_lines numbers.now sets (as_player player) moves.now) out.old out.new result }
 {
     let mut next = at;
-    let mut h = 0;
-    while h < sets {
+    for h in 0..sets {
         next = put_set(numbers, player, h, moves, out, next);
-        h += 1;
     }
     next
 }

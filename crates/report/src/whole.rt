@@ -1,16 +1,18 @@
 // The whole report on a pair: both values, both best values, and the verdict.
-ghost use Rattle.std.specs.Prelude.{◌≡◌, ◌≤◌, ◌<◌, pos, ◌*ℤ◌, length};
+ghost use Rattle.std.specs.Prelude.{◌≡◌, ◌≤◌, pos, ◌*ℤ◌, length};
 ghost use Rattle.std.specs.Int.{w64};
 ghost use Rattle.std.proofs.Common.{SFits};
 ghost use Rattle.model.specs.Earnings.{◌over◌};
 ghost use Rattle.model.specs.Limits.{weight_limit};
+ghost use Rattle.loaded.specs.Players.{as_player};
 ghost use Rattle.judgement.specs.Judgement.{GainFits};
 ghost use Rattle.text.specs.Text.{TextFits, Put};
 ghost use Rattle.report.specs.Whole.{both_lines, values_text, deviation_text, verdict_text, pair_report, PairReady};
 
 use super::strategy::put_strategy;
 use form::Values;
-use judgement::Verdict;
+use judgement::Deviation;
+use loaded::Player;
 use pair::PairHeader;
 use records::Denominators;
 use text::lines::{put_accepted, put_amount_line};
@@ -52,37 +54,36 @@ fn put_values(
     put_both(b"best ", best1, best2, base, out, past_values)
 }
 
-// Puts the deviation of a player, given by his bit, with his strategy.
+// Puts a deviation, with its player's strategy.
 fn put_deviation(
     numbers: &[u16],
     sets: usize,
-    player: usize,
-    gain: i64,
+    found: Deviation,
     base: u64,
     moves: &[u16],
     out: &mut [u8],
     at: usize,
 ) -> usize
-    requires { (player < 2) × (sets ≤ length numbers.now) × (sets ≤ length moves.now) × TextFits at (deviation_text numbers.now sets player (gain over base) moves.now) out.old }
-    ensures { Put at (deviation_text numbers.now sets player (gain over base) moves.now) out.old out.new result }
+    requires { (sets ≤ length numbers.now) × (sets ≤ length moves.now) × TextFits at (deviation_text numbers.now sets (as_player found.player) (found.gain over base) moves.now) out.old }
+    ensures { Put at (deviation_text numbers.now sets (as_player found.player) (found.gain over base) moves.now) out.old out.new result }
 {
     let past_gain = put_amount_line(
         b"deviation player ",
-        player as u64 + 1,
+        found.player.number(),
         b" gain ",
-        gain,
+        found.gain,
         base,
         out,
         at,
     );
-    put_strategy(numbers, sets, player, moves, out, past_gain)
+    put_strategy(numbers, sets, found.player, moves, out, past_gain)
 }
 
 // Puts the verdict.
 fn put_verdict(
     numbers: &[u16],
     sets: usize,
-    verdict: Verdict,
+    verdict: Option<Deviation>,
     base: u64,
     moves1: &[u16],
     moves2: &[u16],
@@ -92,17 +93,13 @@ fn put_verdict(
     requires { (sets ≤ length numbers.now) × (sets ≤ length moves1.now) × (sets ≤ length moves2.now) × TextFits at (verdict_text numbers.now sets base verdict moves1.now moves2.now) out.old }
     ensures { Put at (verdict_text numbers.now sets base verdict moves1.now moves2.now) out.old out.new result }
 {
-    let Verdict::Deviation {
-        player_number,
-        gain,
-    } = verdict
-    else {
+    let Some(found) = verdict else {
         return put_accepted(out, at);
     };
-    if player_number == 1 {
-        return put_deviation(numbers, sets, 0, gain, base, moves1, out, at);
+    match found.player {
+        Player::One => put_deviation(numbers, sets, found, base, moves1, out, at),
+        Player::Two => put_deviation(numbers, sets, found, base, moves2, out, at),
     }
-    put_deviation(numbers, sets, 1, gain, base, moves2, out, at)
 }
 
 // Puts the whole report at the start of a buffer that is long enough; `numbers` has the player of each set, `moves1` and `moves2` each player's moves by set.
@@ -110,7 +107,7 @@ pub fn write(
     numbers: &[u16],
     pair: PairHeader,
     values: Values,
-    verdict: Verdict,
+    verdict: Option<Deviation>,
     moves1: &[u16],
     moves2: &[u16],
     out: &mut [u8],

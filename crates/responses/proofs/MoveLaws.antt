@@ -1,24 +1,22 @@
 -- What is read of a set and of stored worths gives the model's best move.
 use Prim.Native.Nat.{ℕ, pred, ◌+◌, ◌≤◌, ◌<◌}
-use mathlib.Core.Path.{◌≡◌, sym, ap, ◌∙◌, subst}
+use mathlib.Core.Path.{◌≡◌, sym, ap, ◌∙◌}
 use mathlib.Core.List.{List}
 use native.Mathlib.Omega.{arith}
-use lib.Dec.{T, eqb→eq}
+use lib.Dec.{T}
 use lib.IntN.{ℤ}
 use lib.ListN.{length}
 use lib.Signed.{le_z}
 use Rattle.algebra.specs.Arrays.{item, item_z}
 use Rattle.algebra.specs.Bounded.{max_through}
-use Rattle.algebra.proofs.Tests.{cond_yes, cond_no, eqb_make}
+use Rattle.algebra.proofs.Tests.{cond_yes, cond_no}
 use Rattle.algebra.proofs.Searches.{max_through_cong, first_to_cong}
-use Rattle.model.specs.Game.{Game, Player, player_bit, owns}
+use Rattle.model.specs.Game.{Game, Player, owns}
 use Rattle.model.specs.Sequences.{extended, leading}
 use Rattle.model.specs.Plan.{RealizationPlan}
-use Rattle.model.specs.Writing.{player_field}
 use Rattle.model.specs.BestResponse.{worth, set_worth, best_move}
-use Rattle.model.proofs.Tree.{bit_tells}
 use Rattle.model.proofs.Worths.{worth_set}
-use Rattle.loaded.specs.Sections.{player_section, moves_section, start_section}
+use Rattle.loaded.specs.Sections.{moves_section, start_section}
 use Rattle.loaded.specs.Sets.{first_sequence}
 use Rattle.loaded.specs.declared.Counts.{Counts}
 use Rattle.responses.specs.Worths.{WorthsHeld}
@@ -26,20 +24,6 @@ use Rattle.responses.specs.BestMoves.{own_best_move, first_greatest, best_stored
 use Rattle.responses.proofs.SequencesAt.{move_below, move_worth_lem}
 
 module _ {c : Counts} {g : Game} {p : Player} {y : RealizationPlan} {numbers : List ℕ} {worths : List ℤ} (W : WorthsHeld g p y c numbers worths) (h : ℕ) (l : h < g.sets) where
-  -- the player that is read of a set is its own
-  reads : {b : ℕ} → b ≡ item numbers (player_section + h) → b ≡ player_bit (g.set_player h)
-  unfolding player_field
-  reads e = e ∙ W.loaded.decoded.sets_decoded.players.at 0 h l
-
-  -- so that it tells whether the set is p's
-  pub is_own_lem : {b : ℕ} → b ≡ item numbers (player_section + h) → b ≡ player_bit p → T (owns g p h)
-  unfolding owns
-  is_own_lem e i = subst T (bit_tells p (g.set_player h)) (eqb_make (player_bit (g.set_player h)) (player_bit p) (sym (reads e) ∙ i))
-
-  pub not_own : {b : ℕ} → b ≡ item numbers (player_section + h) → ¬ (b ≡ player_bit p) → ¬ T (owns g p h)
-  unfolding owns
-  not_own e d t = d (reads e ∙ eqb→eq (player_bit (g.set_player h)) (player_bit p) (subst T (sym (bit_tells p (g.set_player h))) t))
-
   -- at the other player's sets the answer is 0
   pub best_other : ¬ T (owns g p h) → 0 ≡ own_best_move g p y h
   unfolding own_best_move

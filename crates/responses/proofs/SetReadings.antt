@@ -19,7 +19,8 @@ use Rattle.loaded.specs.Sections.{moves_section, start_section, next_section}
 use Rattle.loaded.specs.Sets.{first_sequence, lead_by, first_led, next_led}
 use Rattle.loaded.specs.Loaded.{NumbersLoaded}
 use Rattle.slices.proofs.Firsts.{FirstPassing, first_from_lem}
-use Rattle.responses.specs.Worths.{leaves_at, WorthReady, SequenceStored, SequenceGiven}
+use Rattle.responses.specs.Worths.{leaves_at, WorthReady, ReadyFor, SequenceStored, SequenceGiven}
+use Rattle.responses.specs.declared.worths.Play.{Play}
 use Rattle.responses.proofs.SequencesAt.{led, move_below}
 use Rattle.responses.proofs.Walks.{leaves_fit}
 
@@ -57,9 +58,6 @@ module _ {g : Game} {p : Player} {y : RealizationPlan} {numbers : List ℕ} {sum
         rw (e ∙ i) (led_first g p s 0 (omega arith))
 
     -- what its leaves are worth
-    pub sums_room : s < length sums
-    sums_room = omega (arith, W.sums_held.held.long)
-
     pub sum_at_lem : item_z sums s ≡ leaves_at g p y s
     sum_at_lem = W.sums_held.held.at s l
 
@@ -69,21 +67,12 @@ module _ {g : Game} {p : Player} {y : RealizationPlan} {numbers : List ℕ} {sum
   -- A set.
   module _ {h : ℕ} (l : h < g.sets) where
     -- the next of its chain
-    pub next_room : next_section + h < length numbers
-    next_room = omega (arith, numbers_are.nexts.long)
-
     pub next_at : (s : ℕ) {at : ℕ} → T (lead_by g p s h) → at ≡ item numbers (next_section + h) → FirstPassing g.sets (lead_by g p s) (h + 1) at
     next_at s t e = rw (e ∙ numbers_are.nexts.at 0 h l) (next_first g p s h l t)
 
     -- its moves
-    pub start_room : start_section + h < length numbers
-    start_room = omega (arith, numbers_are.starts.long)
-
     pub start_at : {s : ℕ} → s ≡ item numbers (start_section + h) → s ≡ first_sequence g h
     start_at e = e ∙ numbers_are.starts.at 0 h l
-
-    pub moves_room : moves_section + h < length numbers
-    moves_room = omega (arith, numbers_are.decoded.sets_decoded.moves.long)
 
     pub moves_at : {m : ℕ} → m ≡ item numbers (moves_section + h) → m ≡ g.set_moves h
     moves_at e = e ∙ numbers_are.decoded.sets_decoded.moves.at 0 h l
@@ -91,6 +80,6 @@ module _ {g : Game} {p : Player} {y : RealizationPlan} {numbers : List ℕ} {sum
     pub some_move : 0 < g.set_moves h
     some_move = (rules.set_moves h l).0
 
-  -- what a call for one of the moves of a set leaves
-  pub move_stored : {s : ℕ} {before after : List ℤ} {r : ℤ} → SequenceGiven numbers sums heads sets s before after r → (h m : ℕ) → h < g.sets → T (owns g p h) → m < g.set_moves h → s ≡ first_sequence g h + m → SequenceStored g p y (first_sequence g h + m) before after r
-  move_stored {s} {before} {after} {r} call h m l o b e = subst (λ (k : ℕ). SequenceStored g p y k before after r) e (call g p y W (omega (arith, e, move_below g p h m l o b)))
+-- what a call for one of the moves of a set leaves
+pub move_stored : (play : Play) {g : Game} {p : Player} {y : RealizationPlan} → ReadyFor g p y play → {s : ℕ} {before after : List ℤ} {r : ℤ} → SequenceGiven play s before after r → (h m : ℕ) → h < g.sets → T (owns g p h) → m < g.set_moves h → s ≡ first_sequence g h + m → SequenceStored g p y (first_sequence g h + m) before after r
+move_stored play {g} {p} {y} W {s} {before} {after} {r} call h m l o b e = subst (λ (k : ℕ). SequenceStored g p y k before after r) e (call g p y W (omega (arith, e, move_below g p h m l o b)))

@@ -10,6 +10,8 @@ use lib.ListN.{length, set}
 use lib.Seq.{get_or-set_same, get_or-set_other}
 use mir.Syntax.{w64}
 use mir.Val.{SFits}
+use Rattle.std.specs.Int.{int_max}
+use Rattle.std.proofs.lemmas.Int.{ints}
 use Rattle.algebra.specs.Arrays.{item_z}
 use Rattle.algebra.specs.Bounded.{sum_to, sum_where, larger, max_through}
 use Rattle.algebra.proofs.Searches.{max_through_cong}
@@ -28,6 +30,11 @@ use Rattle.slices.proofs.Firsts.{FirstPassing}
 use Rattle.responses.specs.Worths.{leaves_at, worth_at, Kept, RightFrom, right_from, SequenceStored, SetStored}
 use Rattle.responses.proofs.Passing.{where_more, where_skip}
 use Rattle.responses.proofs.SequencesAt.{leads_are, move_worth_lem}
+
+-- the larger of two integers, as the library has it
+larger_is : (a b : ℤ) → int_max a b ≡ larger a b
+unfolding larger
+larger_is a b = grind (arith, ints)
 
 -- the greatest of one more
 greatest_more : (f : ℕ → ℤ) (m : ℕ) → 0 < m → larger (max_through (pred m) f) (f m) ≡ max_through (pred (m + 1)) f
@@ -172,9 +179,9 @@ module _ {g : Game} {p : Player} {y : RealizationPlan} where
   }
 
   -- then each other
-  pub try_step : {before between after : List ℤ} {z r : ℤ} {h m : ℕ} → 0 < m → Tried g p y h m before between z → SequenceStored g p y (first_sequence g h + m) between after r → Tried g p y h (m + 1) before after (larger z r)
-  try_step {h = h} {m} l done call = record {
-    top = rw (done.top, call.value) (greatest_more (λ j. worth_at g p y (first_sequence g h + j)) m l);
+  pub try_step : {before between after : List ℤ} {z r : ℤ} {h m : ℕ} → 0 < m → Tried g p y h m before between z → SequenceStored g p y (first_sequence g h + m) between after r → Tried g p y h (m + 1) before after (int_max z r)
+  try_step {z = z} {r} {h} {m} l done call = record {
+    top = larger_is z r ∙ rw (done.top, call.value) (greatest_more (λ j. worth_at g p y (first_sequence g h + j)) m l);
     kept = kept_twice done.kept call.kept;
     stored = λ j b.
         elim (ℕ_discrete j m) [

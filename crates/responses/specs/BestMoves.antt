@@ -3,7 +3,7 @@ use Rattle.std.specs.Prelude.{ℕ, pred, ◌+◌, ◌<◌, cond, List, ℤ}
 use Rattle.std.specs.Int.Signed.{le_z}
 use Rattle.algebra.specs.Arrays.{item_z}
 use Rattle.algebra.specs.Bounded.{max_through, first_to}
-use Rattle.model.specs.Game.{Game, Player, player_of, owns}
+use Rattle.model.specs.Game.{Game, Player, owns}
 use Rattle.model.specs.Plan.{RealizationPlan}
 use Rattle.model.specs.BestResponse.{best_move}
 use Rattle.loaded.specs.declared.Counts.{Counts}
@@ -22,14 +22,13 @@ unfoldable pub best_stored : (worths : List ℤ) → (start count : ℕ) → ℕ
 best_stored worths start count = first_greatest (λ m. item_z worths (start + m)) count
 
 -- What best moves need: some game is loaded, and the worths of a player's sequences against some plan are stored.
-pub record MovesAsked (c : Counts) (numbers : List ℕ) (worths : List ℤ) (player : ℕ) : Type 0 where
+pub record MovesAsked (c : Counts) (numbers : List ℕ) (worths : List ℤ) (p : Player) : Type 0 where
   pub game : Game
   pub plan : RealizationPlan
-  pub is_player : player < 2
-  pub held : WorthsHeld game (player_of player) plan c numbers worths
+  pub held : WorthsHeld game p plan c numbers worths
 
 -- The same for one of its sets.
-pub record MoveAsked (numbers : List ℕ) (worths : List ℤ) (player h : ℕ) : Type 0 where
+pub record MoveAsked (numbers : List ℕ) (worths : List ℤ) (p : Player) (h : ℕ) : Type 0 where
   pub counts : Counts
-  pub asked : MovesAsked counts numbers worths player
+  pub asked : MovesAsked counts numbers worths p
   pub is_set : h < asked.game.sets

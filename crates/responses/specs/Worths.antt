@@ -2,7 +2,7 @@
 use Rattle.std.specs.Prelude.{ℕ, ◌+◌, ◌≤◌, ◌<◌, ◌≡◌, List, T, ℤ, length}
 use Rattle.algebra.specs.Arrays.{item_z}
 use Rattle.model.specs.Limits.{weight_limit}
-use Rattle.model.specs.Game.{Game, Player, player_of, other, owns}
+use Rattle.model.specs.Game.{Game, Player, other, owns}
 use Rattle.model.specs.Sequences.{sequence_count}
 use Rattle.model.specs.Plan.{RealizationPlan, weight_at}
 use Rattle.model.specs.BestResponse.{leaves_worth, worth, set_worth}
@@ -11,6 +11,7 @@ use Rattle.loaded.specs.Sections.{head_section_of}
 use Rattle.loaded.specs.Sets.{first_sequence, lead_by}
 use Rattle.loaded.specs.Loaded.{NumbersLoaded}
 use Rattle.loaded.specs.declared.Counts.{Counts}
+use Rattle.responses.specs.declared.worths.Play.{Play}
 
 -- the first n entries of a list of integers are f 0, .., f (n - 1)
 pub record HoldsZ (f : ℕ → ℤ) (n : ℕ) (l : List ℤ) : Type 0 where
@@ -66,36 +67,39 @@ module _ (g : Game) (p : Player) (y : RealizationPlan) where
     pub stored : (m : ℕ) → m < g.set_moves h → RightFrom after (first_sequence g h + m)
 
 -- What all worths of a player need: some game's sums, against some plan.
-pub record WorthsAsked (c : Counts) (numbers : List ℕ) (sums : List ℤ) (player : ℕ) : Type 0 where
+pub record WorthsAsked (c : Counts) (numbers : List ℕ) (sums : List ℤ) (p : Player) : Type 0 where
   pub game : Game
   pub plan : RealizationPlan
-  pub is_player : player < 2
-  pub held : SumsHeld game (player_of player) plan c numbers sums
+  pub held : SumsHeld game p plan c numbers sums
+
+-- What it takes, as it is lent.
+abbrev pub ReadyFor : Game → Player → RealizationPlan → Play → Type 0
+ReadyFor g p y play = WorthReady g p y play.numbers.now play.sums.now play.heads play.sets
 
 -- What a call for sequence s needs: that some game's player is ready, and room for the worths of his sequences, of which s is one.
-pub record SequenceAsked (numbers : List ℕ) (sums worths : List ℤ) (heads sets s : ℕ) : Type 0 where
+pub record SequenceAsked (play : Play) (worths : List ℤ) (s : ℕ) : Type 0 where
   pub game : Game
   pub player : Player
   pub plan : RealizationPlan
-  pub ready : WorthReady game player plan numbers sums heads sets
+  pub ready : ReadyFor game player plan play
   pub room : sequence_count game player ≤ length worths
   pub is_sequence : s < sequence_count game player
 
 -- What it gives, of each game there.
-abbrev pub SequenceGiven : (numbers : List ℕ) → (sums : List ℤ) → (heads sets s : ℕ) → (before after : List ℤ) → (r : ℤ) → Type 0
-SequenceGiven numbers sums heads sets s before after r =
-    (g : Game) (p : Player) (y : RealizationPlan) → WorthReady g p y numbers sums heads sets → s < sequence_count g p → SequenceStored g p y s before after r
+abbrev pub SequenceGiven : (play : Play) → (s : ℕ) → (before after : List ℤ) → (r : ℤ) → Type 0
+SequenceGiven play s before after r =
+    (g : Game) (p : Player) (y : RealizationPlan) → ReadyFor g p y play → s < sequence_count g p → SequenceStored g p y s before after r
 
 -- What a call for one of his sets needs, and what it gives.
-pub record SetAsked (numbers : List ℕ) (sums worths : List ℤ) (heads sets h : ℕ) : Type 0 where
+pub record SetAsked (play : Play) (worths : List ℤ) (h : ℕ) : Type 0 where
   pub game : Game
   pub player : Player
   pub plan : RealizationPlan
-  pub ready : WorthReady game player plan numbers sums heads sets
+  pub ready : ReadyFor game player plan play
   pub room : sequence_count game player ≤ length worths
   pub is_set : h < game.sets
   pub own : T (owns game player h)
 
-abbrev pub SetGiven : (numbers : List ℕ) → (sums : List ℤ) → (heads sets h : ℕ) → (before after : List ℤ) → (r : ℤ) → Type 0
-SetGiven numbers sums heads sets h before after r =
-    (g : Game) (p : Player) (y : RealizationPlan) → WorthReady g p y numbers sums heads sets → h < g.sets → T (owns g p h) → SetStored g p y h before after r
+abbrev pub SetGiven : (play : Play) → (h : ℕ) → (before after : List ℤ) → (r : ℤ) → Type 0
+SetGiven play h before after r =
+    (g : Game) (p : Player) (y : RealizationPlan) → ReadyFor g p y play → h < g.sets → T (owns g p h) → SetStored g p y h before after r

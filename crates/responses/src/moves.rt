@@ -2,13 +2,14 @@
 ghost use Rattle.std.specs.Prelude.{◌≡◌, ◌+◌, ◌≤◌, ◌<◌, length};
 ghost use Rattle.algebra.specs.Arrays.{over};
 ghost use Rattle.model.specs.Limits.{count_limit};
-ghost use Rattle.model.specs.Game.{Game, player_of};
+ghost use Rattle.model.specs.Game.{Game};
 ghost use Rattle.model.specs.Plan.{RealizationPlan};
 ghost use Rattle.loaded.specs.declared.Counts.{Counts};
+ghost use Rattle.loaded.specs.Players.{as_player};
 ghost use Rattle.responses.specs.Worths.{WorthsHeld};
 ghost use Rattle.responses.specs.BestMoves.{own_best_move, best_stored, MovesAsked, MoveAsked};
 
-use loaded::{Counts, Section, number};
+use loaded::{Counts, Player, Section, number, owner};
 
 // The lowest-numbered worthiest of `count` moves, whose worths stand from `start` on.
 fn best_move(worths: &[i64], start: usize, count: usize) -> u16
@@ -25,27 +26,31 @@ fn best_move(worths: &[i64], start: usize, count: usize) -> u16
 }
 
 // The best move of set `h`, where it is the player's; else 0.
-fn best_of(numbers: &[u16], worths: &[i64], player: usize, h: usize) -> u16
-    requires { MoveAsked numbers.now worths.now player h }
-    ensures { (c : Counts) (g : Game) (y : RealizationPlan) → WorthsHeld g (player_of player) y c numbers.now worths.now → h < g.sets → result ≡ own_best_move g (player_of player) y h }
+fn best_of(numbers: &[u16], worths: &[i64], player: Player, h: usize) -> u16
+    requires { MoveAsked numbers.now worths.now (as_player player) h }
+    ensures { (c : Counts) (g : Game) (y : RealizationPlan) → WorthsHeld g (as_player player) y c numbers.now worths.now → h < g.sets → result ≡ own_best_move g (as_player player) y h }
 {
-    if number(numbers, Section::PLAYER, h) == player {
+    if owner(numbers, h) == player {
         let start = number(numbers, Section::START, h);
         let count = number(numbers, Section::MOVES, h);
-        return best_move(worths, start, count);
+        best_move(worths, start, count)
+    } else {
+        0
     }
-    0
 }
 
 // By set the player's best moves; 0 at the other's sets.
-pub fn best_moves(numbers: &[u16], worths: &[i64], counts: Counts, player: usize, moves: &mut [u16])
-    requires { MovesAsked counts numbers.now worths.now player × (count_limit ≤ length moves.old) }
-    ensures { (g : Game) (y : RealizationPlan) → WorthsHeld g (player_of player) y counts numbers.now worths.now → moves.new ≡ over (own_best_move g (player_of player) y) g.sets moves.old }
+pub fn best_moves(
+    numbers: &[u16],
+    worths: &[i64],
+    counts: Counts,
+    player: Player,
+    moves: &mut [u16],
+)
+    requires { MovesAsked counts numbers.now worths.now (as_player player) × (count_limit ≤ length moves.old) }
+    ensures { (g : Game) (y : RealizationPlan) → WorthsHeld g (as_player player) y counts numbers.now worths.now → moves.new ≡ over (own_best_move g (as_player player) y) g.sets moves.old }
 {
-    let sets = counts.sets;
-    let mut h = 0;
-    while h < sets {
+    for h in 0..counts.sets {
         moves[h] = best_of(numbers, worths, player, h);
-        h += 1;
     }
 }

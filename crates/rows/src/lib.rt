@@ -1,28 +1,23 @@
 // The payoff table of a game as rows, each a small struct, into a lent slice: each row is made from its leaves.
 #![tactic(auto)]
 
-ghost use Rattle.std.specs.Prelude.{◌≡◌, map, ℕ, ◌≤◌, ◌<◌, leb, length};
+ghost use Rattle.std.specs.Prelude.{◌≡◌, map, ℕ, ◌≤◌, ◌<◌, length};
 ghost use Rattle.algebra.specs.Arrays.{over};
 ghost use Rattle.model.specs.Call.{outcome};
+ghost use Rattle.model.specs.Exported.{same};
 ghost use Rattle.model.specs.Calls.PayoffTable.{payoff_rows_of};
+ghost use Rattle.checks.specs.Answers.{answered};
 ghost use Rattle.payoff.specs.Table.{RowReady};
-ghost use Rattle.payoff.specs.Layout.{leaves_in};
-ghost use Rattle.rows.specs.Answers.{table_answered, model_row};
-ghost use Rattle.rows.specs.Rows.{Roomy, table_answer, TableMade, rows_given_of, row_made};
+ghost use Rattle.payoff.specs.Layout.{leaves_in, sequence_at, SequenceReady, sum_at, SumReady};
+ghost use Rattle.rows.specs.Answers.{model_row};
+ghost use Rattle.rows.specs.Rows.{Roomy, TableMade, leaves_sorted, row_made};
 
-use checks::Checked;
+use checks::Refusal;
 use loaded::Section;
 use payoff::layout::{lay_out, row_sequence, row_sum};
 
-// How many rows the payoff table has, which stand in what is lent; a refusal is 1 to 13, or 18.
-#[derive(Clone, Copy)]
-pub enum TableAnswer {
-    Given { rows: u64 },
-    Refused(u64),
-}
-
 // A row of the payoff table: the number of each player's sequence, and each player's sum.
-#[derive(Clone, Copy)]
+#[derive(Clone, Copy, Debug, PartialEq, Eq)]
 pub struct Row {
     pub sequence1: u64,
     pub sequence2: u64,
@@ -30,91 +25,89 @@ pub struct Row {
     pub sum2: i64,
 }
 
-// The answer for so many rows: given, where there is room for them, or 18.
-fn with_room(rows: usize, room: usize) -> TableAnswer
-    ensures { result ≡ table_answer 0 (leb rows room) rows }
-{
-    let c18 = checks::has_room(rows, room);
-    let Checked::Fine = c18 else {
-        return TableAnswer::Refused(checks::number(c18));
-    };
-    TableAnswer::Given { rows: rows as u64 }
+// What rows are made from: a loaded game, its leaves in the order of the table, and where each row begins among them.
+#[derive(Clone, Copy)]
+pub struct SortedLeaves<'a> {
+    pub numbers: &'a [u16],
+    pub payoffs: &'a [i16],
+    pub sorted: &'a [u16],
+    pub bounds: &'a [u16],
 }
 
-// Loads a game; the leaves of an accepted one are laid out in the order of its table. The answer of a call with room for so many rows.
-pub fn laid_out<'a>(
+impl SortedLeaves<'_> {
+    // The number of a player's sequence at row `k`, where by leaf his numbers stand from `from` on.
+    pub fn sequence(&self, from: usize, k: usize) -> u64
+        requires { SequenceReady from self.now.numbers.now self.now.sorted.now self.now.bounds.now k }
+        ensures { result ≡ sequence_at from self.now.numbers.now self.now.sorted.now self.now.bounds.now k }
+    {
+        row_sequence(self.numbers, from, self.sorted, self.bounds, k) as u64
+    }
+
+    // A player's sum at row `k`, where by leaf his payoffs stand from `from` on.
+    pub fn sum(&self, from: usize, k: usize) -> i64
+        requires { SumReady from self.now.numbers.now self.now.payoffs.now self.now.sorted.now self.now.bounds.now k }
+        ensures { result ≡ sum_at from self.now.numbers.now self.now.payoffs.now self.now.sorted.now self.now.bounds.now k }
+    {
+        row_sum(
+            self.numbers,
+            self.payoffs,
+            from,
+            self.sorted,
+            self.bounds,
+            k,
+        )
+    }
+
+    // Row `k`, from its leaves: the pair at which they stand, and each player's sum over them.
+    fn row(&self, k: usize) -> Row
+        requires { RowReady (leaves_sorted self.now) k }
+        ensures { result ≡ row_made (leaves_sorted self.now) k }
+    {
+        let sequence1 = self.sequence(Section::LEAF1, k);
+        let sequence2 = self.sequence(Section::LEAF2, k);
+        let sum1 = self.sum(Section::PAYOFFS1, k);
+        let sum2 = self.sum(Section::PAYOFFS2, k);
+        Row {
+            sequence1,
+            sequence2,
+            sum1,
+            sum2,
+        }
+    }
+
+    // Fills the first `n` rows, in order.
+    fn fill(&self, rows: &mut [Row], n: usize)
+        requires { (n ≤ length rows.old) × ((k : ℕ) → k < n → RowReady (leaves_sorted self.now) k) }
+        ensures { rows.new ≡ over (row_made (leaves_sorted self.now)) n rows.old }
+    {
+        for k in 0..n {
+            rows[k] = self.row(k);
+        }
+    }
+}
+
+// Loads a game; the leaves of an accepted one are laid out in the order of its table. How many rows that has, where there is room for so many.
+pub fn laid_out(
     game: &[u8],
     room: usize,
-    numbers: &'a mut [u16],
-    payoffs: &'a mut [i16],
-    sorted: &'a mut [u16],
-    bounds: &'a mut [u16],
-) -> TableAnswer
+    numbers: &mut [u16],
+    payoffs: &mut [i16],
+    sorted: &mut [u16],
+    bounds: &mut [u16],
+) -> Result<u64, Refusal>
     requires { Roomy numbers.old payoffs.old sorted.old bounds.old }
     ensures { TableMade game.now room result (leaves_in numbers.new payoffs.new sorted.new bounds.new) }
 {
-    let loaded = game::load(game, numbers, payoffs);
-    let game::LoadAnswer::Loaded(counts) = loaded else {
-        return TableAnswer::Refused(game::load_refusal(loaded));
-    };
-    with_room(lay_out(numbers, counts, sorted, bounds), room)
+    let counts = game::load(game, numbers, payoffs)?;
+    let rows = lay_out(numbers, counts, sorted, bounds);
+    checks::has_room(rows, room)?;
+    Ok(rows as u64)
 }
 
-// How many rows an answer gives.
-pub fn rows_given(answer: TableAnswer) -> usize
-    ensures { result ≡ rows_given_of answer }
-{
-    match answer {
-        TableAnswer::Given { rows } => rows as usize,
-        TableAnswer::Refused(_) => 0,
-    }
-}
-
-// Row `k`, from its leaves: the pair at which they stand, and each player's sum over them.
-fn row_at<'a>(
-    k: usize,
-    numbers: &'a [u16],
-    payoffs: &'a [i16],
-    sorted: &'a [u16],
-    bounds: &'a [u16],
-) -> Row
-    requires { RowReady (leaves_in numbers.now payoffs.now sorted.now bounds.now) k }
-    ensures { result ≡ row_made (leaves_in numbers.now payoffs.now sorted.now bounds.now) k }
-{
-    let sequence1 = row_sequence(numbers, Section::LEAF1, sorted, bounds, k);
-    let sequence2 = row_sequence(numbers, Section::LEAF2, sorted, bounds, k);
-    let sum1 = row_sum(numbers, payoffs, Section::PAYOFFS1, sorted, bounds, k);
-    let sum2 = row_sum(numbers, payoffs, Section::PAYOFFS2, sorted, bounds, k);
-    Row {
-        sequence1: sequence1 as u64,
-        sequence2: sequence2 as u64,
-        sum1,
-        sum2,
-    }
-}
-
-// Fills the first `n` rows, in order.
-fn fill_rows<'a>(
-    rows: &mut [Row],
-    n: usize,
-    numbers: &'a [u16],
-    payoffs: &'a [i16],
-    sorted: &'a [u16],
-    bounds: &'a [u16],
-)
-    requires { (n ≤ length rows.old) × ((k : ℕ) → k < n → RowReady (leaves_in numbers.now payoffs.now sorted.now bounds.now) k) }
-    ensures { rows.new ≡ over (row_made (leaves_in numbers.now payoffs.now sorted.now bounds.now)) n rows.old }
-{
-    let mut k = 0;
-    while k < n {
-        rows[k] = row_at(k, numbers, payoffs, sorted, bounds);
-        k += 1;
-    }
-}
-
-// The payoff table, each row into its place.
-pub fn payoff_rows(game: &[u8], rows: &mut [Row]) -> TableAnswer
-    ensures { outcome (table_answered result) (map model_row rows.new, tt) ≡ payoff_rows_of game.now (map model_row rows.old) }
+// The payoff table, each row into its place: how many rows there are. A refusal is 1 to 13, or 18.
+// A refused call fills no row. It is not passed on by `?` before the filling, since the edit that fills rows all the same stands here.
+pub fn payoff_rows(game: &[u8], rows: &mut [Row]) -> Result<u64, Refusal>
+    ensures { outcome (answered same result) (map model_row rows.new, tt) ≡ payoff_rows_of game.now (map model_row rows.old) }
 {
     let mut numbers = [0u16; Section::NUMBERS];
     let mut payoffs = [0i16; Section::PAYOFFS];
@@ -128,13 +121,12 @@ pub fn payoff_rows(game: &[u8], rows: &mut [Row]) -> TableAnswer
         &mut sorted,
         &mut bounds,
     );
-    fill_rows(
-        rows,
-        rows_given(answer),
-        &numbers,
-        &payoffs,
-        &sorted,
-        &bounds,
-    );
+    let leaves = SortedLeaves {
+        numbers: &numbers,
+        payoffs: &payoffs,
+        sorted: &sorted,
+        bounds: &bounds,
+    };
+    leaves.fill(rows, answer.unwrap_or(0) as usize);
     answer
 }

@@ -17,7 +17,7 @@ use Rattle.algebra.proofs.Sections.{held_put, held_as}
 use Rattle.model.specs.Game.{Game, is_decision, in_set}
 use Rattle.model.specs.Sequences.{first_node}
 use Rattle.loaded.specs.Sections.{first_node_section}
-use Rattle.sequences.proofs.Nodes.{Decision, is_decision_lem}
+use Rattle.sequences.proofs.Nodes.{Decision}
 
 module _ (g : Game) where
   -- the first node of set h from `left` on; N where there is none
@@ -59,7 +59,7 @@ module _ (g : Game) where
   unfolding in_set
   from_own left h l D =
       from_step left h l
-      ∙ cond_yes (in_set g h left) left (first_from (left + 1) h) (yes_and (is_decision g left) (eqb (g.node_set left) h) (is_decision_lem g left D.kind) (eqb_make (g.node_set left) h (sym D.set)))
+      ∙ cond_yes (in_set g h left) left (first_from (left + 1) h) (yes_and (is_decision g left) (eqb (g.node_set left) h) D.is (eqb_make (g.node_set left) h (sym D.set)))
 
   -- and changes nothing of another
   from_other : (left h : ℕ) → left < g.nodes → ¬ T (in_set g h left) → first_from (left + 1) h ≡ first_from left h
@@ -78,10 +78,10 @@ module _ (g : Game) where
         (λ i w c. rw s (from_other left i (omega arith) (λ t. c (sym (D.set ∙ eqb→eq (g.node_set left) i (and_yes (is_decision g left) (eqb (g.node_set left) i) t).1)))))
 
     -- any other node changes nothing
-    pub firsts_other : (left next : ℕ) {l : List ℕ} → ¬ (g.kind left ≡ 1) → Held from (first_from next) n l → next ≡ left + 1 → next ≤ g.nodes → Held from (first_from left) n l
-    unfolding in_set is_decision
+    pub firsts_other : (left next : ℕ) {l : List ℕ} → ¬ T (is_decision g left) → Held from (first_from next) n l → next ≡ left + 1 → next ≤ g.nodes → Held from (first_from left) n l
+    unfolding in_set
     firsts_other left next d H s f =
-        held_as (first_from left) H (λ h w. rw s (from_other left h (omega arith) (λ t. d (eqb→eq (g.kind left) 1 (and_yes (eqb (g.kind left) 1) (eqb (g.node_set left) h) t).0))))
+        held_as (first_from left) H (λ h w. rw s (from_other left h (omega arith) (λ t. d (and_yes (is_decision g left) (eqb (g.node_set left) h) t).0)))
 
     -- with every node the section has the sets' first nodes
     pub firsts_all : (left : ℕ) {l : List ℕ} → Held from (first_from left) n l → left ≡ 0 → Held from (first_node g) n l

@@ -7,13 +7,14 @@ use lib.Dec.{T}
 use Rattle.algebra.specs.Arrays.{item}
 use Rattle.algebra.specs.Sections.{Held}
 use Rattle.algebra.proofs.Searches.{first_to_found}
-use Rattle.model.specs.Game.{Game, Player, player_of, in_set}
+use Rattle.model.specs.Game.{Game, Player, in_set}
 use Rattle.model.specs.Sequences.{first_node, leading, leading_number}
 use Rattle.model.specs.Table.{own_number}
 use Rattle.model.specs.GameChecks.{sets_non_empty_of}
 use Rattle.model.proofs.GameRules.{set_node_iff}
 use Rattle.model.proofs.Tree.{first_in_lem}
-use Rattle.loaded.specs.Sections.{player_section, first_node_section, own_section_of}
+use Rattle.loaded.specs.Sections.{first_node_section, own_section_of}
+use Rattle.loaded.specs.Players.{owner_in}
 use Rattle.loaded.specs.Loaded.{Decoded, NumbersLoaded}
 use Rattle.loaded.specs.declared.Counts.{Counts}
 use Rattle.loaded.proofs.Owners.{player_read}
@@ -26,19 +27,19 @@ first_below : (g : Game) → T (sets_non_empty_of g) → (h : ℕ) → h < g.set
 unfolding first_node
 first_below g t h l = let n = (set_node_iff g).holds t h l in (first_to_found g.nodes (in_set g h) n.0 n.1 n.2).1
 
--- The bit and the first node of set h are read.
-module _ {g : Game} {l : List ℕ} (D : Decoded g l) {h b first : ℕ} (v : h < g.sets) (e : b ≡ item l (player_section + h)) (F : Held first_node_section (first_node g) g.sets l) (f : first ≡ item l (first_node_section + h)) where
+-- The player and the first node of set h are read.
+module _ {g : Game} {l : List ℕ} (D : Decoded g l) {h first : ℕ} {p : Player} (v : h < g.sets) (e : p ≡ owner_in l h) (F : Held first_node_section (first_node g) g.sets l) (f : first ≡ item l (first_node_section + h)) where
   -- the first node
   pub first_read : first ≡ first_node g h
   first_read = f ∙ F.at 0 h v
 
   -- the player's own number there is that of the sequence that leads to the set
-  pub leading_is : {r : ℕ} → r ≡ own_number g (player_of b) first → r ≡ leading_number g h
+  pub leading_is : {r : ℕ} → r ≡ own_number g p first → r ≡ leading_number g h
   unfolding own_number leading leading_number
   leading_is r = r ∙ rw (player_read D v e, first_read)
 
 -- What is read of set h where own numbers are stored.
-module _ {g : Game} {l : List ℕ} (F : OwnFilled g l) {h b own : ℕ} (v : h < g.sets) (e : b ≡ item l (player_section + h)) (o : own ≡ own_section_of (player_of b)) where
+module _ {g : Game} {l : List ℕ} (F : OwnFilled g l) {h own : ℕ} {p : Player} (v : h < g.sets) (e : p ≡ owner_in l h) (o : own ≡ own_section_of p) where
   -- its player's own number at a node
   pub own_read : {n r : ℕ} → n < g.nodes → r ≡ item l (own + n) → r ≡ own_number g (g.set_player h) n
   own_read {n} w x = x ∙ rw (o, player_read F.decoded v e) ((F.own (g.set_player h)).at 0 n w)

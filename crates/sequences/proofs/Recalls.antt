@@ -16,17 +16,17 @@ use Rattle.model.proofs.Recall.{AgreeOn, recall_by_number}
 use Rattle.model.proofs.GameRules.{recall_iff}
 use Rattle.loaded.specs.Rooted.{Rooted}
 use Rattle.sequences.specs.Recall.{recall_test}
-use Rattle.sequences.proofs.Nodes.{Decision, is_decision_lem}
+use Rattle.sequences.proofs.Nodes.{Decision}
 
 -- the test of a node that is no decision passes
-pub recall_none : (g : Game) (n : ℕ) → ¬ (g.kind n ≡ 1) → true ≡ recall_test g n
+pub recall_none : (g : Game) (n : ℕ) → ¬ T (is_decision g n) → true ≡ recall_test g n
 unfolding recall_test implies
-recall_none g n d = rw (not→false (is_decision g n) (λ t. d (decision_kind g n t)))
+recall_none g n d = rw (not→false (is_decision g n) d)
 
 -- and that of a decision compares the numbers
 pub recall_here : (g : Game) {n h own lead : ℕ} → Decision g n h → own ≡ own_number g (g.set_player h) n → lead ≡ leading_number g h → eqb own lead ≡ recall_test g n
 unfolding recall_test implies
-recall_here g {n} D e f = rw (e, f, T→true (is_decision g n) (is_decision_lem g n D.kind), D.set)
+recall_here g {n} D e f = rw (e, f, T→true (is_decision g n) D.is, D.set)
 
 module _ (g : Game) where
   -- a decision is in its set

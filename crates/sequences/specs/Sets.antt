@@ -1,10 +1,14 @@
--- How many sequences there are, and what makes them few.
-use Rattle.std.specs.Prelude.{T}
-use Rattle.model.specs.Game.{Game, one, two}
+-- The set of a node, how many sequences there are, and what makes them few.
+use Rattle.std.specs.Prelude.{ℕ, Option, Some, None, T, cond}
+use Rattle.model.specs.Game.{Game, one, two, is_decision}
 use Rattle.model.specs.Sequences.{sequence_count}
 use Rattle.model.specs.GameChecks.{moves_lead_on_of, sets_non_empty_of}
 use Rattle.loaded.specs.Rooted.{Rooted}
 use Rattle.sequences.specs.declared.SequenceCounts.{SequenceCounts}
+
+-- the set of node n, where it is a decision
+unfoldable pub set_of_node : Game → (n : ℕ) → Option ℕ
+set_of_node g n = cond (is_decision g n) (Some (g.node_set n)) None
 
 -- how many sequences each player has
 unfoldable pub sequence_counts : Game → SequenceCounts

@@ -5,11 +5,6 @@ pub mod lookup;
 pub mod recall;
 pub mod sets;
 
-use records::Payload;
-
-// The kind of a decision, as the section of kinds has it.
-const DECISION: usize = Payload::DECISION as usize;
-
 // How many sequences each player has.
 #[derive(Clone, Copy)]
 pub struct SequenceCounts {

@@ -13,7 +13,7 @@ pub fn own_sequence(numbers: &[u16], h: usize) -> OwnSequence
     requires { (g : Game) × (c : Counts) × (h < g.sets) × NumbersLoaded g c numbers.now }
     ensures { (g : Game) (c : Counts) → h < g.sets → NumbersLoaded g c numbers.now → result.number ≡ leading_number g h }
 {
-    let player = loaded::number(numbers, Section::PLAYER, h);
+    let player = loaded::owner(numbers, h);
     let first = loaded::number(numbers, Section::FIRST_NODE, h);
     let number = recall::last_own_move(numbers, player, 0, first);
     OwnSequence {

@@ -1,1 +1,2 @@
 pub mod OddsByNumber
+pub mod OwnSets

@@ -1,3 +1,4 @@
 pub mod ChainLaws
+pub mod Fills
 pub mod Firsts
 pub mod Products

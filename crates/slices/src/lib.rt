@@ -12,5 +12,5 @@ pub fn item(numbers: &[u16], i: usize) -> usize
     requires { i < length numbers.now }
     ensures { (result ≡ item numbers.now i) × (result < 65536) }
 {
-    numbers[i] as usize
+    usize::from(numbers[i])
 }

@@ -1,31 +1,40 @@
--- Common multiples that stop at a limit.
+-- Common multiples within a limit.
 use Prim.Native.Nat.{ℕ, zero, suc, ◌+◌, ◌*◌, ◌/◌, ◌^◌, ◌≤◌, ◌<◌}
-use mathlib.Core.Path.{◌≡◌, refl, sym, ap, ◌∙◌}
+use mathlib.Core.Path.{◌≡◌, refl, sym, ◌∙◌}
 use native.Mathlib.Omega.{arith}
 use native.Mathlib.Nat as NatL
-use native.Mathlib.Decide.{dec_le, ℕ_discrete}
+use native.Mathlib.Decide.{dec_le}
 use lib.Dec.{leb, leb→le, le→leb}
+use Rattle.std.specs.Prelude.{Option, Some, None}
 use Rattle.algebra.specs.Divisors.{gcd, lcm, lcm_to}
-use Rattle.algebra.proofs.Divisors.{lcm_positive, lcm_one, lcm_assoc, lcm_zero, lcm_left, lcm_right, lcm_to_positive}
+use Rattle.algebra.proofs.Divisors.{lcm_iff, lcm_positive, lcm_one, lcm_assoc, lcm_left, lcm_right, lcm_to_positive, lcm_to_fewer}
 use Rattle.algebra.proofs.Tests.{cond_yes, cond_no}
 use Rattle.model.specs.Limits.{weight_limit}
-use Rattle.smallest.specs.Fractions.{capped, capped_from}
+use Rattle.smallest.specs.Fractions.{capped}
 
 -- within the limit, and above it
-pub capped_in : (limit n : ℕ) → n ≤ limit → capped limit n ≡ n
+pub capped_in : (limit n : ℕ) → n ≤ limit → capped limit n ≡ Some n
 unfolding capped
-capped_in limit n l = cond_yes {A = ℕ} (leb n limit) n 0 (le→leb n limit l)
+capped_in limit n l = cond_yes (leb n limit) (Some n) None (le→leb n limit l)
 
-pub capped_above : (limit n : ℕ) → limit < n → capped limit n ≡ 0
+pub capped_above : (limit n : ℕ) → limit < n → capped limit n ≡ None
 unfolding capped
-capped_above limit n l = cond_no {A = ℕ} (leb n limit) n 0 (λ t. omega (arith, leb→le n limit t))
+capped_above limit n l = cond_no (leb n limit) (Some n) None (λ t. omega (arith, leb→le n limit t))
 
--- where what is left is not 0, it is the number itself
-pub capped_some : (limit n : ℕ) → 0 < capped limit n → (capped limit n ≡ n) × (n ≤ limit)
-capped_some limit n some =
+-- what is left is the number itself
+pub capped_some : (limit n : ℕ) {r : Option ℕ} {x : ℕ} → r ≡ capped limit n → r ≡ Some x → (x ≡ n) × (n ≤ limit)
+capped_some limit n {r} {x} is e =
     elim (dec_le n limit) [
-      | yes l ↦ (capped_in limit n l, l)
-      | no l ↦ absurd (omega (arith, capped_above limit n (omega arith)))
+      | yes l ↦ let same : Some x ≡ Some n = sym e ∙ is ∙ capped_in limit n l in (cc, l)
+      | no l ↦ let same : Some x ≡ None = sym e ∙ is ∙ capped_above limit n (omega arith) in absurd cc
+    ]
+
+-- nothing is left of one above the limit only
+pub capped_none : (limit n : ℕ) {r : Option ℕ} → r ≡ capped limit n → r ≡ None → limit < n
+capped_none limit n {r} is e =
+    elim (dec_le n limit) [
+      | yes l ↦ let same : None ≡ Some n = sym e ∙ is ∙ capped_in limit n l in absurd cc
+      | no l ↦ omega arith
     ]
 
 -- the product on the way to a multiple fits
@@ -33,63 +42,46 @@ pub multiple_small : (a b d : ℕ) → a ≤ weight_limit → b ≤ weight_limit
 multiple_small a b d l m = omega (arith, NatL.mul-le-mul l (NatL.le_trans (NatL.div-le_self b d) m))
 
 -- the multiple is within the limit, or is not
-pub multiple_in : (limit a b : ℕ) {d : ℕ} → d ≡ gcd a b → a * (b / d) ≤ limit → a * (b / d) ≡ capped limit (lcm a b)
+pub multiple_in : (limit a b : ℕ) {d : ℕ} → d ≡ gcd a b → a * (b / d) ≤ limit → Some (a * (b / d)) ≡ capped limit (lcm a b)
 unfolding lcm
 multiple_in limit a b e l = rw e (sym (capped_in limit (a * (b / gcd a b)) (rw e at l)))
 
-pub multiple_above : (limit a b : ℕ) {d : ℕ} → d ≡ gcd a b → limit < a * (b / d) → 0 ≡ capped limit (lcm a b)
+pub multiple_above : (limit a b : ℕ) {d : ℕ} → d ≡ gcd a b → limit < a * (b / d) → None ≡ capped limit (lcm a b)
 unfolding lcm
 multiple_above limit a b e l = sym (capped_above limit (a * (b / gcd a b)) (rw e at l))
 
--- once above the limit, always
-capped_again : (limit x y : ℕ) → 0 < x → 0 < y → capped limit (lcm (capped limit x) y) ≡ capped limit (lcm x y)
-capped_again limit x y px py =
-    elim (dec_le x limit) [
-      | yes l ↦ rw (capped_in limit x l)
-      | no l ↦
-          rw (capped_above limit x (omega arith), lcm_zero y, capped_in limit 0 (omega arith))
-          (sym (capped_above limit (lcm x y) (omega (arith, NatL.le_of_dvd (lcm_positive x y px py) (lcm_left x y px py)))))
-    ]
-
--- a multiple of more that is capped
-pub capped_from_lem : (limit a n : ℕ) (f : ℕ → ℕ) → 0 < a → ((i : ℕ) → i < n → 0 < f i) → capped_from limit (capped limit a) n f ≡ capped limit (lcm a (lcm_to n f))
-unfolding capped_from lcm_to
-capped_from_lem limit a zero f pa p = ap (capped limit) (sym (lcm_one a pa))
-capped_from_lem limit a (suc n) f pa p =
-    let x = lcm a (lcm_to n f) in
-    let pn = lcm_to_positive f n (λ i l. p i (omega arith)) in
-    let px = lcm_positive a (lcm_to n f) pa pn in
-    let pf = p n (omega arith) in
-    ap (λ (k : ℕ). capped limit (lcm k (f n))) (capped_from_lem limit a n f pa (λ i l. p i (omega arith)))
-    ∙ capped_again limit x (f n) px pf
-    ∙ ap (capped limit) (lcm_assoc a (lcm_to n f) (f n) pa pn pf)
-
--- Step by step.
-module _ (limit a : ℕ) (f : ℕ → ℕ) where
-  -- one number more
-  pub from_more : (n : ℕ) {x y : ℕ} → x ≡ capped_from limit a n f → y ≡ capped limit (lcm x (f n)) → y ≡ capped_from limit a (n + 1) f
-  unfolding capped_from
-  from_more n e i = let s : n + 1 ≡ suc n = omega arith in rw s (i ∙ ap (λ (k : ℕ). capped limit (lcm k (f n))) e)
-
-  -- where it is 0 it stays so
-  pub from_zero : (n k : ℕ) → n ≤ k → capped_from limit a n f ≡ 0 → capped_from limit a k f ≡ 0
-  unfolding capped_from
-  from_zero n zero l z = let e : n ≡ 0 = omega arith in rw e at z
-  from_zero n (suc k) l z =
-      elim (ℕ_discrete n (suc k)) [
-        | yes e ↦ rw e at z
-        | no e ↦ ap (λ (x : ℕ). capped limit (lcm x (f k))) (from_zero n k (omega arith) z) ∙ ap (capped limit) (lcm_zero (f k)) ∙ capped_in limit 0 (omega arith)
-      ]
-
 -- where the multiple is within the limit, so is the second number
-pub multiple_most : (limit a b : ℕ) {r : ℕ} → 0 < a → 0 < b → r ≡ capped limit (lcm a b) → ¬ (r ≡ 0) → (b ≤ limit) × (0 < r) × (r ≤ limit)
-multiple_most limit a b {r} pa pb e n =
-    let some : 0 < r = NatL.pos_of_ne-zero n in
-    let is = capped_some limit (lcm a b) (omega (arith, e)) in
-    (NatL.le_trans (NatL.le_of_dvd (lcm_positive a b pa pb) (lcm_right a b pa pb)) is.1, some, omega (arith, e, is.0, is.1))
+pub multiple_most : (limit a b : ℕ) {r : Option ℕ} {x : ℕ} → 0 < a → 0 < b → r ≡ capped limit (lcm a b) → r ≡ Some x → (b ≤ limit) × (0 < x) × (x ≤ limit)
+multiple_most limit a b pa pb is e =
+    let c = capped_some limit (lcm a b) is e in
+    let some = lcm_positive a b pa pb in
+    (NatL.le_trans (NatL.le_of_dvd some (lcm_right a b pa pb)) c.1, omega (arith, c.0), omega (arith, c.0, c.1))
+
+-- The multiple of a number and of f 0 .. f (n - 1), all above 0.
+module _ (a : ℕ) (f : ℕ → ℕ) (pa : 0 < a) where
+  -- of none
+  pub with_none : a ≡ lcm a (lcm_to 0 f)
+  unfolding lcm_to
+  with_none = sym (lcm_one a pa)
+
+  -- of one more
+  pub with_more : (n : ℕ) → ((i : ℕ) → i < n + 1 → 0 < f i) → lcm (lcm a (lcm_to n f)) (f n) ≡ lcm a (lcm_to (n + 1) f)
+  unfolding lcm_to
+  with_more n p =
+      let s : n + 1 ≡ suc n = omega arith in
+      rw s (lcm_assoc a (lcm_to n f) (f n) pa (lcm_to_positive f n (λ i l. p i (omega arith))) (p n (omega arith)))
+
+  -- it grows
+  pub with_fewer : (n k : ℕ) → ((i : ℕ) → i < n → 0 < f i) → k ≤ n → lcm a (lcm_to k f) ≤ lcm a (lcm_to n f)
+  with_fewer n k p l =
+      let pn = lcm_to_positive f n p in
+      let pk = lcm_to_positive f k (λ i v. p i (omega arith)) in
+      let part = lcm_left a (lcm_to n f) pa pn in
+      let rest = NatL.dvd_trans (lcm_to k f) (lcm_to_fewer f n k p l) (lcm_right a (lcm_to n f) pa pn) in
+      NatL.le_of_dvd (lcm_positive a (lcm_to n f) pa pn) ((lcm_iff a (lcm_to k f) (lcm a (lcm_to n f)) pa pk).1 (part, rest))
 
 -- equal numbers have equal multiples
-pub from_cong : (limit a n : ℕ) (f h : ℕ → ℕ) → ((i : ℕ) → i < n → f i ≡ h i) → capped_from limit a n f ≡ capped_from limit a n h
-unfolding capped_from
-from_cong limit a zero f h e = refl
-from_cong limit a (suc n) f h e = rw (from_cong limit a n f h (λ i l. e i (omega arith)), e n (omega arith))
+pub lcm_to_cong : (n : ℕ) (f h : ℕ → ℕ) → ((i : ℕ) → i < n → f i ≡ h i) → lcm_to n f ≡ lcm_to n h
+unfolding lcm_to
+lcm_to_cong zero f h e = refl
+lcm_to_cong (suc n) f h e = rw (lcm_to_cong n f h (λ i l. e i (omega arith)), e n (omega arith))

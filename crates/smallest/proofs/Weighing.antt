@@ -3,12 +3,10 @@ use Prim.Native.Nat.{ℕ, ◌*◌, ◌/◌, ◌≤◌, ◌<◌}
 use mathlib.Core.Path.{◌≡◌, refl, sym, ap, ◌∙◌}
 use mathlib.Core.List.{List, ◌++◌}
 use native.Mathlib.Omega.{arith}
-use native.Mathlib.Nat as NatL
 use lib.ListN.{length, drop}
-use lib.Dec.{ltb, lt→ltb}
+use Rattle.std.specs.Prelude.{Option, Some, None}
 use Rattle.algebra.specs.Arrays.{item, over}
 use Rattle.algebra.proofs.Lists.{list_to_cong}
-use Rattle.algebra.proofs.Tests.{cond_yes}
 use Rattle.model.specs.Limits.{count_limit, weight_limit}
 use Rattle.model.specs.Game.{Game, Player}
 use Rattle.model.specs.Sequences.{sequence_count}
@@ -27,14 +25,13 @@ use Rattle.smallest.proofs.Capped.{capped_some}
 use Rattle.smallest.proofs.Probabilities.{lowest_at_most, weight_lowest}
 
 -- all that is asked for is there
-pub all_asked : {c : Counts} {numbers x numerators denominators : List ℕ} {limit : ℕ} → LoadedIn c numbers → (b : ℕ) → b < 2 → count_limit ≤ length x → 0 < limit → limit ≤ weight_limit → count_limit ≤ length numerators → count_limit ≤ length denominators → AllAsked c.sets b numbers x numerators denominators limit
-all_asked {c} L b known long some small l m =
+pub all_asked : {c : Counts} {numbers x numerators denominators : List ℕ} {limit : ℕ} → LoadedIn c numbers → count_limit ≤ length x → 0 < limit → limit ≤ weight_limit → count_limit ≤ length numerators → count_limit ≤ length denominators → AllAsked c.sets numbers x numerators denominators limit
+all_asked {c} L long some small l m =
     record {
       game = L.game;
       counts = c;
       loaded = L.loaded;
       sets_are = (counted L.loaded.counts_are).sets_are;
-      known = known;
       in_odds = long;
       in_numerators = l;
       in_denominators = m;
@@ -78,17 +75,20 @@ module _ {g : Game} (R : GameRules g) (odds : Odds) (p : Player) {numerators den
   scaled {count} {d} x e is done = done ∙ rw (e, is) (ap (λ (l : List ℕ). l ++ drop (sequence_count g p) x) (list_to_cong (sequence_count g p) _ _ weight_is))
 
 -- What a player's turn leaves.
-module _ {g : Game} {odds : Odds} {p : Player} {limit r : ℕ} {numerators denominators : List ℕ} (S : Smallest g odds p limit r numerators denominators) where
+module _ {g : Game} {odds : Odds} {p : Player} {limit : ℕ} {r : Option ℕ} {numerators denominators : List ℕ} (S : Smallest g odds p limit r numerators denominators) where
   -- no D within the limit serves: nothing is changed
-  pub weighed_none : {x : List ℕ} → r ≡ 0 → Weighed g odds p limit 0 x x
-  weighed_none z = record { answer = sym z ∙ S.answer; weights = refl }
+  pub weighed_none : {x : List ℕ} → r ≡ None → Weighed g odds p limit None x x
+  weighed_none z = record { answer = sym z ∙ S.answer; weights = tt; kept = refl }
 
   -- some does: his weights over the smallest
-  pub weighed_some : {x x' : List ℕ} → ¬ (r ≡ 0) → x' ≡ over (smallest_weight g odds p) (sequence_count g p) x → Weighed g odds p limit r x x'
-  weighed_some {x} n e = record { answer = S.answer; weights = e ∙ sym (cond_yes (ltb 0 r) (over (smallest_weight g odds p) (sequence_count g p) x) x (lt→ltb 0 r (NatL.pos_of_ne-zero n))) }
+  module _ {d : ℕ} (e : r ≡ Some d) where
+    pub weighed_some : {x x' : List ℕ} → x' ≡ over (smallest_weight g odds p) (sequence_count g p) x → Weighed g odds p limit (Some d) x x'
+    weighed_some w = record { answer = sym e ∙ S.answer; weights = w; kept = tt }
 
-  -- it is the smallest D, and within the limit
-  pub smallest_is : ¬ (r ≡ 0) → (r ≡ smallest_d g odds p) × (r ≤ limit)
-  smallest_is n =
-      let is = capped_some limit (smallest_d g odds p) (omega (arith, S.answer, NatL.pos_of_ne-zero n)) in
-      (S.answer ∙ is.0, omega (arith, S.answer, is.0, is.1))
+    -- it is the smallest D, and within the limit
+    pub smallest_is : (d ≡ smallest_d g odds p) × (d ≤ limit)
+    smallest_is = let is = capped_some limit (smallest_d g odds p) S.answer e in (is.0, omega (arith, is.0, is.1))
+
+    -- and his probabilities are put
+    pub probabilities_put : Probabilities g odds p g.sets numerators denominators
+    probabilities_put = rw e at S.probabilities

@@ -1,6 +1,6 @@
 -- Probabilities in lowest terms, one move after the other, and a common multiple that stops at a limit.
-use Rattle.std.specs.Prelude.{ℕ, zero, suc, ◌*◌, ◌/◌, ◌≤◌, ◌<◌, cond, ltb, leb}
-use Rattle.algebra.specs.Divisors.{gcd, lcm}
+use Rattle.std.specs.Prelude.{ℕ, ◌*◌, ◌/◌, ◌≤◌, ◌<◌, cond, ltb, leb, Option, Some, None}
+use Rattle.algebra.specs.Divisors.{gcd}
 use Rattle.model.specs.Limits.{weight_limit}
 use Rattle.model.specs.Game.{Game}
 use Rattle.model.specs.Sequences.{Sequence}
@@ -32,11 +32,6 @@ pub record ProperTo (bound : ℕ) (r : Probability) : Type 0 where
 abbrev pub Proper : Probability → Type 0
 Proper = ProperTo weight_limit
 
--- a number within the limit, or 0 in its place
-unfoldable pub capped : (limit n : ℕ) → ℕ
-capped limit n = cond (leb n limit) n 0
-
--- the common multiple of a and f 0 .. f (n - 1), or 0 once it is above the limit
-unfoldable pub capped_from : (limit a n : ℕ) → (ℕ → ℕ) → ℕ
-capped_from limit a zero f = a
-capped_from limit a (suc n) f = capped limit (lcm (capped_from limit a n f) (f n))
+-- a number, where it is within the limit
+unfoldable pub capped : (limit n : ℕ) → Option ℕ
+capped limit n = cond (leb n limit) (Some n) None

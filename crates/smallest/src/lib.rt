@@ -6,15 +6,16 @@ ghost use Rattle.std.specs.Prelude.{◌≡◌, ◌*◌, ◌/◌, ◌≤◌, ◌<
 ghost use Rattle.algebra.specs.Arrays.{item, over};
 ghost use Rattle.algebra.specs.Divisors.{lcm};
 ghost use Rattle.model.specs.Limits.{count_limit, weight_limit};
-ghost use Rattle.model.specs.Game.{Game, player_of};
+ghost use Rattle.model.specs.Game.{Game};
 ghost use Rattle.model.specs.Sheet.{Odds};
+ghost use Rattle.loaded.specs.Players.{as_player};
 ghost use Rattle.loaded.specs.Loaded.{NumbersLoaded};
 ghost use Rattle.plan.specs.Loaded.{LoadedIn};
 ghost use Rattle.sheets.specs.OddsByNumber.{OddsByNumber};
 ghost use Rattle.smallest.specs.Fractions.{Proper, times_odds, capped};
 ghost use Rattle.smallest.specs.Multiples.{SetAsked, SetFilled, Probabilities, NextAsked, NextMultiple, AllAsked, Smallest, Scalable, Weighed};
 
-use loaded::{Counts, Section, SetSequences};
+use loaded::{Counts, Player, SetSequences};
 use records::NodeRecord;
 
 // A probability, as a fraction of whole numbers.
@@ -44,16 +45,20 @@ fn extended(before: Probability, odds: u64, total: u64) -> Probability
     }
 }
 
-// The least common multiple of two numbers, or 0 where it is above the limit.
-fn common_multiple(a: u64, b: u64, limit: u64) -> u64
+// The least common multiple of two numbers, where it is within the limit.
+fn common_multiple(a: u64, b: u64, limit: u64) -> Option<u64>
     requires { (0 < a) × (a ≤ weight_limit) × (b ≤ weight_limit * (64 * weight_limit)) }
     ensures { result ≡ capped limit (lcm a b) }
 {
     let multiple = a * (b / divisors::gcd(a, b));
-    if multiple <= limit { multiple } else { 0 }
+    if multiple <= limit {
+        Some(multiple)
+    } else {
+        None
+    }
 }
 
-// Puts the probabilities of a set's sequences, after that of the one that leads to it, and gives the common multiple with their denominators; 0 once it is above the limit, with the rest not put.
+// Puts the probabilities of a set's sequences, after that of the one that leads to it, and gives the common multiple with their denominators. Once that is above the limit there is none, and the rest is not put.
 fn fill_set(
     set: SetSequences,
     before: Probability,
@@ -63,81 +68,71 @@ fn fill_set(
     denominators: &mut [u16],
     multiple: u64,
     limit: u64,
-) -> u64
+) -> Option<u64>
     requires { SetAsked set before total x.now numerators.old denominators.old multiple limit }
     ensures { SetFilled set before total x.now multiple limit result numerators.old numerators.new denominators.old denominators.new }
 {
-    let start = set.start;
-    let moves = set.moves;
     let mut common = multiple;
-    let mut m = 0;
-    while m < moves {
-        let next = extended(before, loaded::number(x, start, m) as u64, total);
-        common = common_multiple(common, next.denominator, limit);
-        if common == 0 {
-            return 0;
-        }
-        loaded::put(numerators, start, m, next.numerator as usize);
-        loaded::put(denominators, start, m, next.denominator as usize);
-        m += 1;
+    for m in 0..set.moves {
+        let next = extended(before, loaded::number(x, set.start, m) as u64, total);
+        common = common_multiple(common, next.denominator, limit)?;
+        loaded::put(numerators, set.start, m, next.numerator as usize);
+        loaded::put(denominators, set.start, m, next.denominator as usize);
     }
-    common
+    Some(common)
 }
 
-// The common multiple with the set at place `i` of the order, where it is the player's; its probabilities are put then.
+// The common multiple with the set at place `i` of the order, where it is the player's and that is within the limit; its probabilities are put then.
 fn next_multiple(
     numbers: &[u16],
     i: usize,
-    player: usize,
+    player: Player,
     x: &[u16],
     numerators: &mut [u16],
     denominators: &mut [u16],
     multiple: u64,
     limit: u64,
-) -> u64
-    requires { NextAsked i player numbers.now x.now numerators.old denominators.old multiple limit }
-    ensures { (g : Game) → (c : Counts) → (odds : Odds) → NumbersLoaded g c numbers.now → i < g.sets → OddsByNumber g (player_of player) odds x.now → Probabilities g odds (player_of player) i numerators.old denominators.old → NextMultiple g odds (player_of player) i multiple limit result numerators.new denominators.new }
+) -> Option<u64>
+    requires { NextAsked i (as_player player) numbers.now x.now numerators.old denominators.old multiple limit }
+    ensures { (g : Game) → (c : Counts) → (odds : Odds) → NumbersLoaded g c numbers.now → i < g.sets → OddsByNumber g (as_player player) odds x.now → Probabilities g odds (as_player player) i numerators.old denominators.old → NextMultiple g odds (as_player player) i multiple limit result numerators.new denominators.new }
 {
-    let h = loaded::number(numbers, Section::ORDER, i);
-    if loaded::number(numbers, Section::PLAYER, h) == player {
-        let set = loaded::set_sequences(numbers, h);
-        let total = plan::moves_total(x, set.start, set.moves) as u64;
-        let before = Probability {
-            numerator: slices::item(numerators, set.lead) as u64,
-            denominator: slices::item(denominators, set.lead) as u64,
-        };
-        return fill_set(
-            set,
-            before,
-            total,
-            x,
-            numerators,
-            denominators,
-            multiple,
-            limit,
-        );
-    }
-    multiple
+    let Some(set) = sheets::own_set(numbers, i, player) else {
+        return Some(multiple);
+    };
+    let total = plan::moves_total(x, set.start, set.moves) as u64;
+    let before = Probability {
+        numerator: u64::from(numerators[set.lead]),
+        denominator: u64::from(denominators[set.lead]),
+    };
+    fill_set(
+        set,
+        before,
+        total,
+        x,
+        numerators,
+        denominators,
+        multiple,
+        limit,
+    )
 }
 
-// The smallest D of a player within the limit, or 0 where there is none; the probabilities of his sequences are put by their numbers.
+// The smallest D of a player, where it is within the limit; the probabilities of his sequences are put by their numbers.
 fn smallest(
     numbers: &[u16],
     sets: usize,
-    player: usize,
+    player: Player,
     x: &[u16],
     numerators: &mut [u16],
     denominators: &mut [u16],
     limit: u64,
-) -> u64
-    requires { AllAsked sets player numbers.now x.now numerators.old denominators.old limit }
-    ensures { (g : Game) → (c : Counts) → (odds : Odds) → NumbersLoaded g c numbers.now → sets ≡ g.sets → OddsByNumber g (player_of player) odds x.now → Smallest g odds (player_of player) limit result numerators.new denominators.new }
+) -> Option<u64>
+    requires { AllAsked sets numbers.now x.now numerators.old denominators.old limit }
+    ensures { (g : Game) → (c : Counts) → (odds : Odds) → NumbersLoaded g c numbers.now → sets ≡ g.sets → OddsByNumber g (as_player player) odds x.now → Smallest g odds (as_player player) limit result numerators.new denominators.new }
 {
     loaded::put(numerators, 0, 0, 1);
     loaded::put(denominators, 0, 0, 1);
     let mut multiple = 1;
-    let mut i = 0;
-    while i < sets {
+    for i in 0..sets {
         multiple = next_multiple(
             numbers,
             i,
@@ -147,13 +142,9 @@ fn smallest(
             denominators,
             multiple,
             limit,
-        );
-        if multiple == 0 {
-            return 0;
-        }
-        i += 1;
+        )?;
     }
-    multiple
+    Some(multiple)
 }
 
 // Probabilities times `d`, by the numbers of their sequences.
@@ -161,35 +152,36 @@ fn scale(numerators: &[u16], denominators: &[u16], count: usize, d: u64, x: &mut
     requires { Scalable count d numerators.now denominators.now x.old }
     ensures { x.new ≡ over (λ k. d / item denominators.now k * item numerators.now k) count x.old }
 {
-    let mut k = 0;
-    while k < count {
-        let share = d / slices::item(denominators, k) as u64;
-        x[k] = (share * slices::item(numerators, k) as u64) as u16;
-        k += 1;
+    for k in 0..count {
+        let share = d / u64::from(denominators[k]);
+        x[k] = (share * u64::from(numerators[k])) as u16;
     }
 }
 
-// A player's weights over his smallest D, in place of his odds by sequence number: that D, or 0 where it is above the limit and nothing is changed.
-pub fn weigh(numbers: &[u16], counts: Counts, player: usize, x: &mut [u16], limit: u64) -> u64
-    requires { LoadedIn counts numbers.now × (player < 2) × (count_limit ≤ length x.old) × (0 < limit) × (limit ≤ weight_limit) }
-    ensures { (g : Game) → (odds : Odds) → NumbersLoaded g counts numbers.now → OddsByNumber g (player_of player) odds x.old → Weighed g odds (player_of player) limit result x.old x.new }
+// A player's weights over his smallest D, in place of his odds by sequence number, and that D. Where it is above the limit there is none, and nothing is changed.
+pub fn weigh(
+    numbers: &[u16],
+    counts: Counts,
+    player: Player,
+    x: &mut [u16],
+    limit: u64,
+) -> Option<u64>
+    requires { LoadedIn counts numbers.now × (count_limit ≤ length x.old) × (0 < limit) × (limit ≤ weight_limit) }
+    ensures { (g : Game) → (odds : Odds) → NumbersLoaded g counts numbers.now → OddsByNumber g (as_player player) odds x.old → Weighed g odds (as_player player) limit result x.old x.new }
 {
+    // Two arrays of 16-bit parts: a `Probability` has room for what is found on the way.
     let mut numerators = [0u16; NodeRecord::NODES];
     let mut denominators = [0u16; NodeRecord::NODES];
-    let sets = counts.sets;
     let d = smallest(
         numbers,
-        sets,
+        counts.sets,
         player,
         x,
         &mut numerators,
         &mut denominators,
         limit,
-    );
-    if d == 0 {
-        return 0;
-    }
+    )?;
     let side = counts.side(player);
     scale(&numerators, &denominators, side.sequences, d, x);
-    d
+    Some(d)
 }

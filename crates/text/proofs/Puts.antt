@@ -1,14 +1,20 @@
 -- Texts put one after the other.
 use Prim.Native.Nat.{ℕ, ◌+◌}
-use mathlib.Core.Path.{◌≡◌, ap, ◌∙◌}
-use mathlib.Core.List.{List, [], ◌∷◌, ◌++◌}
+use mathlib.Core.Path.{◌≡◌, sym, ap, ◌∙◌}
+use mathlib.Core.List.{List, [], ◌∷◌, ◌++◌, append_assoc}
 use native.Mathlib.Omega.{arith}
 use native.Mathlib.Nat as NatL
 use lib.ListN.{length, set, take, drop, length-append}
-use lib.Seq.{take_at}
+use lib.Seq.{take_at, drop-drop}
+use borrow.Rule.Slice.PartMut.{put_mid}
 use Rattle.algebra.specs.Arrays.{placed}
 use Rattle.algebra.proofs.Arrays.{length_placed, placed_none, placed_first, placed_more, placed_twice}
 use Rattle.text.specs.Text.{TextFits, Put}
+
+-- what a copy to a part of the buffer leaves
+pub put_part : (at k : ℕ) (text out : List ℕ) → length text ≡ k → put_mid at k out text ≡ placed at text out
+unfolding placed
+put_part at k text out e = sym (append_assoc (take at out) text (drop k (drop at out))) ∙ rw (drop-drop, e)
 
 -- nothing is put
 pub put_none : (at : ℕ) (out : List ℕ) → Put at [] out out at

@@ -7,14 +7,11 @@ ghost use Rattle.text.specs.Text.{TextFits, Put};
 use super::decimal::put_decimal;
 use super::put_text;
 
-// The size of a number: no step leaves its type, at the smallest number either.
+// The size of a number. It may not change: it is public, docs/ARCHITECTURE.md names it, and its edit stands on it.
 pub fn magnitude(count: i64) -> u64
     ensures { result ≡ nat_abs count }
 {
-    if count < 0 {
-        return (-1 - count) as u64 + 1;
-    }
-    count as u64
+    count.unsigned_abs()
 }
 
 // Puts a signed number.

@@ -8,11 +8,12 @@ fn put_digit(digit: u64, out: &mut [u8], at: usize) -> usize
     requires { (digit < 10) × TextFits at ((48 + digit) ∷ []) out.old }
     ensures { Put at ((48 + digit) ∷ []) out.old out.new result }
 {
-    out[at] = (48 + digit) as u8;
+    out[at] = b'0' + digit as u8;
     at + 1
 }
 
 // Puts a number: what is left without its last digit, and then that digit.
+// `write!` says what it writes in the library's words for digits, so a proof that these are the model's would be longer than this.
 pub fn put_decimal(n: u64, out: &mut [u8], at: usize) -> usize
     requires { TextFits at (decimal n) out.old }
     ensures { Put at (decimal n) out.old out.new result }

@@ -1,10 +1,14 @@
 -- An amount rounded up, compared with a number of thousandths.
-use Prim.Native.Nat.{ℕ, ◌*◌, ◌^◌, ◌<◌}
+use Prim.Native.Nat.{ℕ, suc, ◌+◌, ◌-◌, ◌*◌, ◌/◌, ◌%◌, ◌<◌}
 use mathlib.Core.Path.{◌≡◌}
 use native.Mathlib.Omega.{arith}
-use lib.Dec.{T, leb, leb→le, le→leb}
+use native.Mathlib.Nat as NatL
+use native.Mathlib.Decide.{dec_lt}
+use lib.Dec.{leb, leb→le, le→leb}
 use lib.IntN.{ℤ, pos, negsuc, nat_abs}
-use lib.Signed.{◌≤ℤ◌, le_z, le_z_yes, non_neg}
+use lib.Signed.{le_z, le_z_yes}
+use Rattle.std.specs.Prelude.{min}
+use Rattle.std.proofs.lemmas.Grind.{div_ceil_times}
 use Rattle.algebra.proofs.Integers.{le_to, to_le}
 use Rattle.algebra.proofs.Tests.{bool_same}
 use Rattle.model.specs.Earnings.{◌over◌}
@@ -12,14 +16,17 @@ use Rattle.model.specs.Tolerance.{thousandths, at_most, thousandths_up}
 use Rattle.model.proofs.Thousandths.{up_at_most}
 use Rattle.thousandths.specs.Rounding.{AmountFits}
 
--- a number that is not below 0
-pub positive : (z : ℤ) → pos 0 ≤ℤ z → T (non_neg z)
-positive (pos n) h = tt
-positive (negsuc n) h = absurd (omega (arith, le_to (pos 0) (negsuc n) h))
-
--- its size is far below 2⁶⁴
-pub size_small : {z : ℤ} {base : ℕ} → AmountFits z base → nat_abs z < 2 ^ 63
-size_small a = omega (arith, a.size.count_fits, a.size.base_fits)
+-- The library's quotient that is rounded up is the model's.
+pub ceil_is : (x b : ℕ) → 0 < b → x / b + min 1 (x % b) ≡ (x + (b - 1)) / b
+ceil_is x b s =
+    let c = x / b + min 1 (x % b) in
+    let t = div_ceil_times x b s in
+    let up : (x + (b - 1)) / b < suc c = (NatL.div-lt_iff_lt-mul {k = b} {x = x + (b - 1)} {y = suc c} s).1 (omega arith) in
+    let down : (x + (b - 1)) / b < c → x + (b - 1) < c * b = (NatL.div-lt_iff_lt-mul {k = b} {x = x + (b - 1)} {y = c} s).0 in
+    elim (dec_lt ((x + (b - 1)) / b) c) [
+      | yes l ↦ absurd (omega (arith, down l))
+      | no l ↦ omega arith
+    ]
 
 -- the rounded number is at most t exactly where the amount is at most t thousandths
 pub within_is : (t : ℕ) (z : ℤ) (base : ℕ) → AmountFits z base → leb (thousandths_up (nat_abs z) base) t ≡ at_most (z over base) (thousandths t)

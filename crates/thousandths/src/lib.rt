@@ -14,7 +14,7 @@ pub fn rounded_up(count: u64, base: u64) -> u64
 {
     let quotient = count / base;
     let remainder = count % base;
-    1000 * quotient + (1000 * remainder + (base - 1)) / base
+    1000 * quotient + (1000 * remainder).div_ceil(base)
 }
 
 // Whether an amount that is not below 0 is at most so many thousandths.
@@ -22,5 +22,5 @@ pub fn at_most(count: i64, base: u64, tolerance: u64) -> bool
     requires { AmountFits count base }
     ensures { result ≡ at_most (count over base) (thousandths tolerance) }
 {
-    rounded_up(count as u64, base) <= tolerance
+    rounded_up(count.unsigned_abs(), base) <= tolerance
 }

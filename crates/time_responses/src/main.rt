@@ -2,69 +2,57 @@
 // Two runs that differ in that number alone differ by the time of the best responses.
 #![tactic(auto)]
 
-ghost use Rattle.std.specs.Prelude.{◌≡◌, ◌≤◌};
+ghost use Rattle.std.specs.Prelude.{◌≡◌};
+ghost use Rattle.model.specs.Game.{one};
 ghost use Rattle.responses.specs.Responses.{ResponseAsked};
 
-use loaded::{Counts, Section};
-use pair::PairAnswer;
+use loaded::{LoadedGame, Player, Section};
 use records::NodeRecord;
 use std::rt::Files;
 use trials::{ROOM, load, say, say_number};
 
 // A line with the best move of set 0, or 0 where that is player 2's.
 fn say_move(rt: &impl Print, number: u16) {
-    say_number(rt, b"best move of set 0: ", number as u64);
+    say_number(rt, b"best move of set 0: ", number);
     say(rt, b"\n");
 }
 
 // The best responses, over the loaded game: the last one's best move of set 0.
-fn repeat(numbers: &[u16], payoffs: &[i16], counts: Counts, y: &[u16], times: usize) -> u16
-    requires { ResponseAsked counts numbers.now payoffs.now 0 y.now }
+fn repeat(game: &LoadedGame<'_>, y: &[u16], times: u16) -> u16
+    requires { ResponseAsked game.now one y.now }
 {
     let mut sums = [0i64; NodeRecord::NODES];
     let mut worths = [0i64; NodeRecord::NODES];
     let mut moves = [0u16; NodeRecord::NODES];
     for _ in 0..times {
-        responses::best_response(
-            numbers,
-            payoffs,
-            counts,
-            0,
-            y,
-            &mut sums,
-            &mut worths,
-            &mut moves,
-        );
+        responses::best_response(game, Player::One, y, &mut sums, &mut worths, &mut moves);
     }
     moves[0]
 }
 
 // On both files.
-fn run(rt: &impl Print, game: &[u8], plan: &[u8], times: usize) {
+fn run(rt: &impl Print, game: &[u8], plan: &[u8], times: u16) {
     let mut numbers = [0u16; Section::NUMBERS];
     let mut payoffs = [0i16; Section::PAYOFFS];
     let mut x = [0u16; NodeRecord::NODES];
     let mut y = [0u16; NodeRecord::NODES];
-    let answer = pair::read(game, plan, &mut numbers, &mut payoffs, &mut x, &mut y);
-    let PairAnswer::Fits(pair) = answer else {
+    let Ok(pair) = pair::read(game, plan, &mut numbers, &mut payoffs, &mut x, &mut y) else {
         say(rt, b"refused\n");
         return;
     };
-    say_move(rt, repeat(&numbers, &payoffs, pair.counts, &y, times));
-}
-
-// A byte as a number.
-fn wide(byte: u8) -> usize
-    ensures { (result ≡ byte) × (result ≤ 255) }
-{
-    byte as usize
+    let game = LoadedGame {
+        numbers: &numbers,
+        payoffs: &payoffs,
+        counts: pair.counts,
+    };
+    say_move(rt, repeat(&game, &y, times));
 }
 
 // How often.
-fn times(rt: &(impl Files + Print)) -> usize {
+fn times(rt: &(impl Files + Print)) -> u16 {
     let mut bytes = [0u8; 2];
     load(rt, b"times", &mut bytes);
-    wide(bytes[0]) * 256 + wide(bytes[1])
+    u16::from_be_bytes(bytes)
 }
 
 fn main(rt: HostRuntime) {

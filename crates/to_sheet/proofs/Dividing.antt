@@ -4,6 +4,8 @@ use mathlib.Core.Path.{◌≡◌, refl, sym, ap, ◌∙◌}
 use native.Mathlib.Omega.{arith}
 use native.Mathlib.Nat as NatL
 use native.Mathlib.Numerals.{add-one}
+use Rattle.std.specs.Prelude.{Option, Some, None, SomeIff}
+use Rattle.std.specs.Option.{unwrap_or}
 use Rattle.algebra.specs.Divisors.{gcd, gcd_to}
 
 -- A loop has found the divisor of the first n of so many numbers.
@@ -29,6 +31,7 @@ module _ (f : ℕ → ℕ) (bound : ℕ) where
 pub weight_part : (divisor : ℕ) {weight read part : ℕ} → read ≡ weight → part ≡ read / divisor → part ≡ weight / divisor
 weight_part divisor e f = f ∙ ap (λ (k : ℕ). k / divisor) e
 
--- by 0
-pub by_none : (weight : ℕ) {divisor : ℕ} → divisor ≡ 0 → 0 ≡ weight / divisor
-by_none weight e = sym (NatL.div-zero weight) ∙ ap (λ (k : ℕ). weight / k) (sym e)
+-- a quotient that is only where the divisor is above 0, with 0 for it elsewhere, is the quotient
+pub or_none : (weight divisor : ℕ) (r : Option ℕ) → SomeIff r (0 < divisor) (weight / divisor) → unwrap_or r 0 ≡ weight / divisor
+or_none weight divisor None s = let e : divisor ≡ 0 = omega arith in rw e (sym (NatL.div-zero weight))
+or_none weight divisor (Some x) s = s.1

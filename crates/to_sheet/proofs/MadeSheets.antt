@@ -16,21 +16,21 @@ use Rattle.model.specs.Sheet.{sheet_bytes}
 use Rattle.model.specs.Rows.{refusal}
 use Rattle.model.specs.Checks.{pair_rows, pair_refusal}
 use Rattle.model.specs.Call.{given, refused, after_call, outcome, run}
-use Rattle.model.specs.Exported.{refusal_of}
+use Rattle.model.specs.Exported.{same}
 use Rattle.model.specs.Calls.SheetFromPlan.{call}
 use Rattle.model.proofs.Budget.{game_limits}
 use Rattle.model.proofs.Checks.{game_rules, plan_rules, pair_parts, pair_named, pair_refusal_lem}
 use Rattle.model.proofs.Numbers.{plan_moves_few}
 use Rattle.model.proofs.PlanOrder.{length_order}
-use Rattle.checks.specs.declared.WriteAnswer.{WriteAnswer}
-use Rattle.checks.specs.declared.WriteAnswer.TheVariants.{Written, Refused}
-use Rattle.checks.specs.Answers.{write_answered}
+use Rattle.std.specs.Prelude.{Result, Ok, Err}
+use Rattle.checks.specs.declared.Refusal.{Refusal}
+use Rattle.checks.specs.declared.Refusal.TheVariants.{Room}
+use Rattle.checks.specs.Answers.{refusal_number, answered}
 use Rattle.checks.proofs.Chains.{Refuses, begin, ends, is_fine, call_refuses, same_run}
 use Rattle.checks.proofs.Files.{pair_refuses, pair_fine}
 use Rattle.checks.proofs.OneBuffer.{one_given}
 use Rattle.checks.proofs.Runs.{Gave, gave, not_gave, front}
 use Rattle.loaded.specs.Loaded.{NumbersLoaded}
-use Rattle.pair.specs.declared.PairAnswer.{PairAnswer}
 use Rattle.pair.specs.declared.PairHeader.{PairHeader}
 use Rattle.pair.specs.Refusals.{PairRead}
 use Rattle.pair.proofs.Pairs.{PairOpened, pair_counted}
@@ -66,11 +66,11 @@ module _ (game plan out : List ℕ) where
     odds_given_lem room {n} many held1 held2 put =
         let f = files game plan in
         let size : n ≡ length (odds_in_order f) = many ∙ (pair_counted game plan o).all ∙ sym (length_odds f) in
-        let fine = is_fine 18 (le-leb n (length out) (omega (arith, size, odds_few game plan o.none))) in
-        rw size (one_given odds_call pair_named f out (pair_fine game plan o.none) size fine refl (put ∙ ap (λ (l : List ℕ). placed 0 l out) (both_odds (game_of game) plan held1 held2 fitting)))
+        let fine = is_fine Room (le-leb n (length out) (omega (arith, size, odds_few game plan o.none))) in
+        rw size (one_given odds_call pair_named f out (pair_fine game plan o.none) size {r = Ok tt} fine refl (put ∙ ap (λ (l : List ℕ). placed 0 l out) (both_odds (game_of game) plan held1 held2 fitting)))
 
 -- the loaded game of a pair that was read
-pub pair_loads : (game plan : List ℕ) {h : PairHeader} → PairOpened game plan h → {r : PairAnswer} {numbers : List ℕ} {payoffs : List ℤ} {x x' y y' : List ℕ} → PairRead game plan r numbers payoffs x x' y y' → NumbersLoaded (game_of game) h.counts numbers
+pub pair_loads : (game plan : List ℕ) {h : PairHeader} → PairOpened game plan h → {r : Result PairHeader Refusal} {numbers : List ℕ} {payoffs : List ℤ} {x x' y y' : List ℕ} → PairRead game plan r numbers payoffs x x' y y' → NumbersLoaded (game_of game) h.counts numbers
 pair_loads game plan o R = rw o.counts (R.loaded o.game_none).in_numbers
 
 -- The sheet of the odds that were read.
@@ -82,11 +82,11 @@ module _ (width : ℕ) (game plan out : List ℕ) where
   few e = odds_few game plan (pair_refusal_lem game plan ∙ e)
 
   -- what reading refuses
-  pub sheet_refused : (l : List ℕ) → count_limit ≤ length l → {r : WriteAnswer} {after : List ℕ} {k m : ℕ} → outcome (write_answered r) (after, tt) ≡ run odds_call pair (l, tt) → r ≡ Refused k → m ≡ refusal_of (write_answered r) → outcome (refused m) (out, tt) ≡ run (call width) pair (out, tt)
+  pub sheet_refused : (l : List ℕ) → count_limit ≤ length l → {r : Result ℕ Refusal} {after : List ℕ} {d : Refusal} → outcome (answered same r) (after, tt) ≡ run odds_call pair (l, tt) → r ≡ Err d → outcome (refused (refusal_number d)) (out, tt) ≡ run (call width) pair (out, tt)
   unfolding odds_call call
-  sheet_refused l long {r} {after} {k} {m} e f g =
-      let s : Refuses pair_rows pair k = not_gave odds_call pair_named pair (l, tt) e (ap write_answered f) (λ fine. rw (le-leb (length (odds_in_order pair)) (length l) (omega (arith, few fine)))) in
-      rw (g, f) (sym (call_refuses (call width) pair_named pair (out, tt) s))
+  sheet_refused l long {d = d} e f =
+      let s : Refuses pair_rows pair (refusal_number d) = not_gave odds_call pair_named pair (l, tt) e (ap (answered same) f) (λ fine. rw (le-leb (length (odds_in_order pair)) (length l) (omega (arith, few fine)))) in
+      sym (call_refuses (call width) pair_named pair (out, tt) s)
 
   -- what reading gives
   pub record OddsTaken (count : ℕ) (after : List ℕ) : Type 0 where
@@ -94,10 +94,10 @@ module _ (width : ℕ) (game plan out : List ℕ) where
     pub small : count ≤ count_limit
     pub odds : take count after ≡ odds_in_order pair
 
-  pub odds_read : (l : List ℕ) {r : WriteAnswer} {after : List ℕ} {count : ℕ} → outcome (write_answered r) (after, tt) ≡ run odds_call pair (l, tt) → r ≡ Written count → OddsTaken count after
+  pub odds_read : (l : List ℕ) {r : Result ℕ Refusal} {after : List ℕ} {count : ℕ} → outcome (answered same r) (after, tt) ≡ run odds_call pair (l, tt) → r ≡ Ok count → OddsTaken count after
   unfolding odds_call
   odds_read l {r} {after} {count} e f =
-      let G : Gave odds_call pair_named pair (l, tt) count (after, tt) = gave odds_call pair_named pair (l, tt) e (ap write_answered f) in
+      let G : Gave odds_call pair_named pair (l, tt) count (after, tt) = gave odds_call pair_named pair (l, tt) e (ap (answered same) f) in
       let left : after ≡ after_call 0 (odds_in_order pair) l = ap (λ (b : List ℕ × Unit {0}). b.0) G.buffers in
       record {
         fits = G.fine;

@@ -3,7 +3,7 @@ use Rattle.std.specs.Prelude.{ℕ, ◌+◌, ◌/◌, ◌≤◌, cond, List, [], 
 use Rattle.algebra.specs.Arrays.{item}
 use Rattle.algebra.specs.Bounded.{join_to, list_to}
 use Rattle.algebra.specs.Divisors.{gcd_to}
-use Rattle.model.specs.Game.{Game, Player, player_of, owns, moves_before}
+use Rattle.model.specs.Game.{Game, Player, owns, moves_before}
 use Rattle.model.specs.Plan.{RealizationPlan}
 use Rattle.model.specs.Sheet.{Odds}
 use Rattle.loaded.specs.Weights.{plan_by_number}
@@ -22,6 +22,6 @@ unfoldable pub player_parts : Game → Player → (x : List ℕ) → List ℕ
 player_parts g p x = join_to g.sets (parts_at g p x)
 
 -- So many sets of some game, a weight for each of a player's sequences, and a place for each of his moves from `before` on.
-pub record PartsAsked (sets player : ℕ) (numbers x : List ℕ) (before : ℕ) (out : List ℕ) : Type 0 where
-  pub asked : FitsAsked sets player numbers x
-  pub room : before + moves_before asked.game (player_of player) asked.game.sets ≤ length out
+pub record PartsAsked (sets : ℕ) (p : Player) (numbers x : List ℕ) (before : ℕ) (out : List ℕ) : Type 0 where
+  pub asked : FitsAsked sets p numbers x
+  pub room : before + moves_before asked.game p asked.game.sets ≤ length out

@@ -4,23 +4,22 @@ ghost use Rattle.algebra.specs.Arrays.{item, placed};
 ghost use Rattle.algebra.specs.Bounded.{list_to};
 ghost use Rattle.algebra.specs.Divisors.{gcd_to};
 ghost use Rattle.model.specs.Limits.{count_limit};
-ghost use Rattle.model.specs.Game.{Game, one, two, player_of, moves_before};
+ghost use Rattle.model.specs.Game.{Game, one, two, moves_before};
+ghost use Rattle.loaded.specs.Players.{as_player};
 ghost use Rattle.loaded.specs.Loaded.{NumbersLoaded};
 ghost use Rattle.plan.specs.Loaded.{LoadedIn, SetsLoaded};
 ghost use Rattle.to_sheet.specs.Parts.{parts_at, player_parts, PartsAsked};
 
-use loaded::{Counts, Section};
+use loaded::{Counts, Player, SetSequences};
 
-// The greatest common divisor of the weights of a set's moves, the first at `start`; 0 where all of them are 0.
-fn set_divisor(x: &[u16], start: usize, moves: usize) -> u64
-    requires { start + moves ≤ length x.now }
-    ensures { result ≡ gcd_to moves (λ m. item x.now (start + m)) }
+// The greatest common divisor of the weights of a set's moves; 0 where all of them are 0.
+fn set_divisor(x: &[u16], set: SetSequences) -> u64
+    requires { set.start + set.moves ≤ length x.now }
+    ensures { result ≡ gcd_to set.moves (λ m. item x.now (set.start + m)) }
 {
-    let mut divisor: u64 = 0;
-    let mut m = 0;
-    while m < moves {
-        divisor = divisors::gcd(divisor, loaded::number(x, start, m) as u64);
-        m += 1;
+    let mut divisor = 0;
+    for m in 0..set.moves {
+        divisor = divisors::gcd(divisor, loaded::number(x, set.start, m) as u64);
     }
     divisor
 }
@@ -29,54 +28,45 @@ fn set_divisor(x: &[u16], start: usize, moves: usize) -> u64
 fn part(weight: u64, divisor: u64) -> u64
     ensures { result ≡ weight / divisor }
 {
-    if divisor == 0 {
-        return 0;
-    }
-    weight / divisor
+    weight.checked_div(divisor).unwrap_or(0)
 }
 
 // Puts the weights of a set's moves, divided, into `out` from place `at` on.
-fn put_parts(x: &[u16], start: usize, moves: usize, divisor: u64, out: &mut [u64], at: usize)
-    requires { (start + moves ≤ length x.now) × (at + moves ≤ length out.old) }
-    ensures { out.new ≡ placed at (list_to moves (λ m. item x.now (start + m) / divisor)) out.old }
+fn put_parts(x: &[u16], set: SetSequences, divisor: u64, out: &mut [u64], at: usize)
+    requires { (set.start + set.moves ≤ length x.now) × (at + set.moves ≤ length out.old) }
+    ensures { out.new ≡ placed at (list_to set.moves (λ m. item x.now (set.start + m) / divisor)) out.old }
 {
-    let mut m = 0;
-    while m < moves {
-        out[at + m] = part(loaded::number(x, start, m) as u64, divisor);
-        m += 1;
+    for m in 0..set.moves {
+        out[at + m] = part(loaded::number(x, set.start, m) as u64, divisor);
     }
 }
 
 // Puts the odds of set `h`, where it is the player's, before whose moves `before` others stand in plan order.
-fn put_set(numbers: &[u16], h: usize, player: usize, x: &[u16], before: usize, out: &mut [u64])
-    requires { PartsAsked (suc h) player numbers.now x.now before out.old }
-    ensures { (g : Game) → SetsLoaded g numbers.now → h < g.sets → out.new ≡ placed (before + moves_before g (player_of player) h) (parts_at g (player_of player) x.now h) out.old }
+fn put_set(numbers: &[u16], h: usize, player: Player, x: &[u16], before: usize, out: &mut [u64])
+    requires { PartsAsked (suc h) (as_player player) numbers.now x.now before out.old }
+    ensures { (g : Game) → SetsLoaded g numbers.now → h < g.sets → out.new ≡ placed (before + moves_before g (as_player player) h) (parts_at g (as_player player) x.now h) out.old }
 {
-    if loaded::number(numbers, Section::PLAYER, h) != player {
-        return;
+    if loaded::owner(numbers, h) == player {
+        let set = loaded::set_sequences(numbers, h);
+        let divisor = set_divisor(x, set);
+        put_parts(x, set, divisor, out, before + set.start - 1);
     }
-    let start = loaded::number(numbers, Section::START, h);
-    let moves = loaded::number(numbers, Section::MOVES, h);
-    let divisor = set_divisor(x, start, moves);
-    put_parts(x, start, moves, divisor, out, before + start - 1);
 }
 
 // Puts the odds of all sets of the player.
 fn put_player(
     numbers: &[u16],
     sets: usize,
-    player: usize,
+    player: Player,
     x: &[u16],
     before: usize,
     out: &mut [u64],
 )
-    requires { PartsAsked sets player numbers.now x.now before out.old }
-    ensures { (g : Game) → SetsLoaded g numbers.now → sets ≡ g.sets → out.new ≡ placed before (player_parts g (player_of player) x.now) out.old }
+    requires { PartsAsked sets (as_player player) numbers.now x.now before out.old }
+    ensures { (g : Game) → SetsLoaded g numbers.now → sets ≡ g.sets → out.new ≡ placed before (player_parts g (as_player player) x.now) out.old }
 {
-    let mut h = 0;
-    while h < sets {
+    for h in 0..sets {
         put_set(numbers, h, player, x, before, out);
-        h += 1;
     }
 }
 
@@ -87,6 +77,6 @@ pub fn put(numbers: &[u16], counts: Counts, x: &[u16], y: &[u16], out: &mut [u64
 {
     let sets = counts.sets;
     let moves1 = counts.sequences1 - 1;
-    put_player(numbers, sets, 0, x, 0, out);
-    put_player(numbers, sets, 1, y, moves1, out);
+    put_player(numbers, sets, Player::One, x, 0, out);
+    put_player(numbers, sets, Player::Two, y, moves1, out);
 }

@@ -6,22 +6,16 @@ ghost use Rattle.model.specs.Earnings.{◌over◌};
 ghost use Rattle.model.specs.Tolerance.{thousandths, at_most};
 ghost use Rattle.model.specs.Calls.Tolerance.{tolerates, ToleranceMet};
 ghost use Rattle.judgement.specs.Judgement.{gain_of};
-ghost use Rattle.tolerance.specs.Answers.{tolerance_answered};
+ghost use Rattle.model.specs.Exported.{same};
+ghost use Rattle.checks.specs.Answers.{answered};
 ghost use Rattle.tolerance.specs.Gains.{GainAsked};
 
-use evaluation::PairEvaluated;
+use checks::Refusal;
+use evaluation::Evaluated;
 use form::Values;
 use loaded::Section;
 use records::{Denominators, NodeRecord};
 use verdict::verdicts;
-
-// A pair passes at a tolerance where no strategy of either player gains more; a refusal is 1 to 16.
-#[derive(Clone, Copy)]
-pub enum ToleranceAnswer {
-    Passes,
-    Fails,
-    Refused(u64),
-}
 
 // Whether a player's gain is at most the tolerance: `best` is over D0 × the other's D, `denominator` is his own D, `base` D0 × D1 × D2.
 fn gain_within(denominator: u64, best: i64, value: i64, base: u64, tolerance: u64) -> bool
@@ -54,29 +48,24 @@ fn passes(values: Values, denominators: Denominators, base: u64, tolerance: u64)
     first && second
 }
 
-// Whether the pair passes at a tolerance in thousandths of a payoff point; the second clause says what that means.
-pub fn tolerates(game: &[u8], plan: &[u8], tolerance: u16) -> ToleranceAnswer
-    ensures equation { tolerance_answered result ≡ (tolerates tolerance game.now plan.now).answer }
-    ensures promise { ToleranceMet tolerance game.now plan.now (tolerance_answered result) }
+// Whether the pair passes at a tolerance in thousandths of a payoff point: no strategy of either player gains more, as the second clause says.
+pub fn tolerates(game: &[u8], plan: &[u8], tolerance: u16) -> Result<bool, Refusal>
+    ensures equation { answered same result ≡ (tolerates tolerance game.now plan.now).answer }
+    ensures promise { ToleranceMet tolerance game.now plan.now (answered same result) }
 {
     let mut numbers = [0u16; Section::NUMBERS];
     let mut payoffs = [0i16; Section::PAYOFFS];
     let mut moves1 = [0u16; NodeRecord::NODES];
     let mut moves2 = [0u16; NodeRecord::NODES];
-    let evaluated = evaluation::evaluate(
+    let Evaluated { pair, values } = evaluation::evaluate(
         game,
         plan,
         &mut numbers,
         &mut payoffs,
         &mut moves1,
         &mut moves2,
-    );
-    let PairEvaluated::Evaluated { pair, values } = evaluated else {
-        return ToleranceAnswer::Refused(evaluation::refusal(evaluated));
-    };
+    )?;
     let base = verdicts::base(pair);
-    if passes(values, pair.denominators, base, tolerance as u64) {
-        return ToleranceAnswer::Passes;
-    }
-    ToleranceAnswer::Fails
+    let passes = passes(values, pair.denominators, base, tolerance as u64);
+    Ok(passes)
 }

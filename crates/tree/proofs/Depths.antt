@@ -14,8 +14,9 @@ use Rattle.algebra.proofs.Searches.{all_to_at}
 use Rattle.model.specs.Limits.{count_limit}
 use Rattle.model.specs.Game.{Game}
 use Rattle.model.specs.GameChecks.{path_limit, depth_in, depth, paths_in_limit_of}
-use Rattle.checks.specs.declared.Checked.TheVariants.{Fine, Broken}
-use Rattle.checks.specs.Checked.{checked_of}
+use Rattle.std.specs.Prelude.{Ok, Err}
+use Rattle.checks.specs.declared.Refusal.TheVariants.{PathLength}
+use Rattle.checks.specs.Answers.{checked_of}
 use Rattle.loaded.specs.Rooted.{Rooted}
 use Rattle.checks.proofs.Passes.{Passed, passed_none, passed_more, passed_not, passed_all}
 
@@ -101,13 +102,13 @@ module _ (g : Game) where
           }
 
       -- or is past the limit
-      pub measured_not : 255 < get_or depths up 0 + 1 → Broken 11 ≡ checked_of 11 (paths_in_limit_of g)
+      pub measured_not : 255 < get_or depths up 0 + 1 → Err PathLength ≡ checked_of PathLength (paths_in_limit_of g)
       unfolding paths_in_limit_of path_limit
       measured_not l =
           let x = get_or depths up 0 + 1 in
-          passed_not (in_limit g) g.nodes 11 n (leb x 255) b (ap (λ (k : ℕ). leb k 255) F.is) (lt-leb x 255 l)
+          passed_not (in_limit g) g.nodes PathLength n (leb x 255) b (ap (λ (k : ℕ). leb k 255) F.is) (lt-leb x 255 l)
 
   -- all nodes pass
-  pub measured_all : (n : ℕ) (depths : List ℕ) → Measured g n depths → g.nodes ≤ n → Fine ≡ checked_of 11 (paths_in_limit_of g)
+  pub measured_all : (n : ℕ) (depths : List ℕ) → Measured g n depths → g.nodes ≤ n → Ok tt ≡ checked_of PathLength (paths_in_limit_of g)
   unfolding paths_in_limit_of path_limit
-  measured_all n depths M b = passed_all (in_limit g) g.nodes 11 n M.passed b
+  measured_all n depths M b = passed_all (in_limit g) g.nodes PathLength n M.passed b

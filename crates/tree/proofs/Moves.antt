@@ -18,10 +18,11 @@ use Rattle.model.specs.Limits.{count_limit}
 use Rattle.model.specs.Game.{Game, node_moves}
 use Rattle.model.specs.GameChecks.{is_child, share_move, moves_lead_on_of}
 use Rattle.model.proofs.Tree.{below, below_is}
-use Rattle.checks.specs.declared.Checked.{Checked}
-use Rattle.checks.specs.declared.Checked.TheVariants.{Fine, Broken}
-use Rattle.checks.specs.Checked.{checked_of}
-use Rattle.checks.proofs.Chains.{first_broken, then_second}
+use Rattle.std.specs.Prelude.{Ok, Err}
+use Rattle.checks.specs.declared.Refusal.{Refusal}
+use Rattle.checks.specs.declared.Refusal.TheVariants.{MissingMove}
+use Rattle.checks.specs.Answers.{checked_of}
+use Rattle.checks.proofs.Chains.{Checked, first_broken, then_second}
 use Rattle.loaded.specs.Rooted.{Rooted}
 use Rattle.tree.specs.Children.{mask, met, Marked, alone, complete, Swept}
 use Rattle.tree.proofs.Parents.{Stands}
@@ -110,18 +111,18 @@ module _ (g : Game) where
   marked_first seen few e = holds_none _ g.nodes count_limit seen e few (λ n. mask_none 64 (met g 1 n) (λ m. refl))
 
   -- what the pass answers where two nodes share a move
-  pub swept_not : (seen : List ℕ) → Broken 9 ≡ checked_of 9 (all_to g.nodes (alone g)) → Swept g (Broken 9) seen
-  swept_not seen e = (e, λ f. let z : ◌≡◌ {A = ℕ} 0 1 = cc in absurd (omega arith))
+  pub swept_not : (seen : List ℕ) → Err MissingMove ≡ checked_of MissingMove (all_to g.nodes (alone g)) → Swept g (Err MissingMove) seen
+  swept_not seen e = (e, λ f. absurd cc)
 
   -- check 9 has two halves: where the first is broken, its answer
-  pub moves_broken : {r : Checked} {n : ℕ} → r ≡ checked_of 9 (all_to g.nodes (alone g)) → r ≡ Broken n → r ≡ checked_of 9 (moves_lead_on_of g)
+  pub moves_broken : {r : Checked} {d : Refusal} → r ≡ checked_of MissingMove (all_to g.nodes (alone g)) → r ≡ Err d → Err d ≡ checked_of MissingMove (moves_lead_on_of g)
   unfolding moves_lead_on_of alone
-  moves_broken e f = first_broken 9 (all_to g.nodes (alone g)) _ e f
+  moves_broken e f = sym f ∙ first_broken MissingMove (all_to g.nodes (alone g)) _ e f
 
   -- and where it is fine: the second's
-  pub moves_second : {r s : Checked} → r ≡ checked_of 9 (all_to g.nodes (alone g)) → r ≡ Fine → s ≡ checked_of 9 (all_to g.nodes (complete g)) → s ≡ checked_of 9 (moves_lead_on_of g)
+  pub moves_second : {r s : Checked} {u : Unit {0}} → r ≡ checked_of MissingMove (all_to g.nodes (alone g)) → r ≡ Ok u → s ≡ checked_of MissingMove (all_to g.nodes (complete g)) → s ≡ checked_of MissingMove (moves_lead_on_of g)
   unfolding moves_lead_on_of alone complete met
-  moves_second e f second = then_second 9 (all_to g.nodes (alone g)) (all_to g.nodes (complete g)) e f second
+  moves_second e f second = then_second MissingMove (all_to g.nodes (alone g)) (all_to g.nodes (complete g)) e f second
 
   module _ (R : Rooted g) (n : ℕ) (inside : n < g.nodes) where
     -- a move that is met is one of the node's

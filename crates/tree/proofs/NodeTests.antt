@@ -1,7 +1,7 @@
 -- The tests of checks 7 and 8 of what is read of a node: they are the model's.
 use Prim.Native.Nat.{ℕ, zero, suc, ◌≤◌, ◌<◌}
-use mathlib.Core.Path.{◌≡◌, refl, sym, ◌∙◌}
-use mathlib.Core.Bool.{Bool, true, false, not, ◌&&◌, cond}
+use mathlib.Core.Path.{◌≡◌, refl, sym}
+use mathlib.Core.Bool.{Bool, true, false, not, ◌&&◌, cond, and-true}
 use native.Mathlib.Omega.{arith}
 use lib.Dec.{T, eqb, ltb}
 use borrow.Author.Tests.{lt-ltb, le-ltb}
@@ -10,21 +10,28 @@ use Rattle.model.specs.Game.{Game, is_leaf, is_decision, is_chance, node_moves}
 use Rattle.model.specs.GameChecks.{is_move_count_of, payload_in_range, payloads_in_range_of, attached}
 use Rattle.model.proofs.Tree.{leaf_moves}
 use Rattle.model.proofs.GameRules.{payloads_iff}
+use Rattle.records.specs.declared.game_file.Kind.{Kind}
+use Rattle.records.specs.Records.{kind_of, kind_number}
 use Rattle.loaded.specs.Sets.{payload_number}
 use Rattle.loaded.proofs.NodeReads.{neither}
 use Rattle.tree.specs.Games.{SetThere}
 use Rattle.tree.specs.Tests.{in_range}
 
+-- a decision's test
+pub decision_ranged : {kind : Kind} (payload sets : ℕ) → kind ≡ Kind.Decision → ltb payload sets ≡ in_range (kind_number kind) payload sets
+unfolding in_range implies kind_number
+decision_ranged payload sets e = rw (e, and-true)
+
 -- each kind's number is the one that its test asks for
-ranged : (sets set moves kind : ℕ) → in_range kind (cond (eqb kind 1) set (cond (eqb kind 2) moves 0)) sets ≡ (implies (eqb kind 1) (ltb set sets) && implies (eqb kind 2) (is_move_count_of moves))
-unfolding in_range implies
+ranged : (sets set moves kind : ℕ) → in_range (kind_number (kind_of kind)) (cond (eqb kind 1) set (cond (eqb kind 2) moves 0)) sets ≡ (implies (eqb kind 1) (ltb set sets) && implies (eqb kind 2) (is_move_count_of moves))
+unfolding in_range implies kind_of kind_number
 ranged sets set moves zero = refl
 ranged sets set moves (suc zero) = refl
 ranged sets set moves (suc (suc zero)) = refl
-ranged sets set moves (suc (suc (suc k))) = neither k _ _ ∙ sym (neither k _ _)
+ranged sets set moves (suc (suc (suc k))) = sym (neither k _ _)
 
 -- the test of check 7
-pub in_range_is : (g : Game) (n : ℕ) {kind payload sets : ℕ} → kind ≡ g.kind n → payload ≡ payload_number g n → sets ≡ g.sets → in_range kind payload sets ≡ payload_in_range g n
+pub in_range_is : (g : Game) (n : ℕ) {kind : Kind} {payload sets : ℕ} → kind ≡ kind_of (g.kind n) → payload ≡ payload_number g n → sets ≡ g.sets → in_range (kind_number kind) payload sets ≡ payload_in_range g n
 unfolding payload_in_range payload_number is_decision is_chance
 in_range_is g n k p s = rw (k, p, s) (ranged g.sets (g.node_set n) (g.chance_moves n) (g.kind n))
 

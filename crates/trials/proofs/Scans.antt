@@ -1,13 +1,14 @@
 -- Passes over a list from a place on, one place at a time.
 use Prim.Native.Nat.{ℕ, suc, ◌+◌, ◌≤◌, ◌<◌}
-use mathlib.Core.Path.{◌≡◌, sym, ap, ◌∙◌}
+use mathlib.Core.Path.{◌≡◌, refl, sym, ap, ◌∙◌}
 use mathlib.Core.Bool.{true, false}
-use mathlib.Core.List.{List, ◌∷◌}
+use mathlib.Core.List.{List, [], ◌∷◌}
 use native.Mathlib.Omega.{arith}
 use borrow.Author.Tests.{lt-ltb, le-ltb}
 use lib.Dec.{eqb}
 use lib.ListN.{length, get_or, drop, drop_of_length-le}
 use lib.Seq.{drop-cons}
+use Rattle.std.specs.List.{fold}
 use Rattle.trials.specs.Checks.{taken_in_of, check_from, bytes_from}
 use Rattle.trials.specs.Lists.{before, place_of, next_line_of}
 
@@ -42,22 +43,14 @@ pub next_ends : (list : List ℕ) (start end : ℕ) → end ≡ place_of list st
 unfolding next_line_of
 next_ends list start end e l = rw (sym e, le-ltb end (length list) l)
 
--- no number is left to be taken in
-pub check_end : (check : ℕ) (xs : List ℕ) (at : ℕ) → length xs ≤ at → check_from check (drop at xs) ≡ check
+-- the numbers are taken in from the first on, as a fold does
+pub check_folds : (check : ℕ) (xs : List ℕ) → check_from check xs ≡ fold (λ (c x : ℕ). taken_in_of (taken_in_of c 0) x) check xs
 unfolding check_from
-check_end check xs at l = rw (drop_of_length-le xs l)
+check_folds check [] = refl
+check_folds check (x ∷ xs) = check_folds (taken_in_of (taken_in_of check 0) x) xs
 
--- the number at the place is taken in
-pub check_more : (check : ℕ) (xs : List ℕ) (at : ℕ) → at < length xs → check_from check (drop at xs) ≡ check_from (taken_in_of (taken_in_of check 0) (get_or xs at 0)) (drop (at + 1) xs)
-unfolding check_from
-check_more check xs at l = rw (left xs at l)
-
--- no byte is left to be taken in
-pub bytes_end : (check : ℕ) (xs : List ℕ) (at : ℕ) → length xs ≤ at → bytes_from check (drop at xs) ≡ check
+-- and so are the bytes
+pub bytes_fold : (check : ℕ) (xs : List ℕ) → bytes_from check xs ≡ fold taken_in_of check xs
 unfolding bytes_from
-bytes_end check xs at l = rw (drop_of_length-le xs l)
-
--- the byte at the place is taken in
-pub bytes_more : (check : ℕ) (xs : List ℕ) (at : ℕ) → at < length xs → bytes_from check (drop at xs) ≡ bytes_from (taken_in_of check (get_or xs at 0)) (drop (at + 1) xs)
-unfolding bytes_from
-bytes_more check xs at l = rw (left xs at l)
+bytes_fold check [] = refl
+bytes_fold check (x ∷ xs) = bytes_fold (taken_in_of check x) xs

@@ -10,31 +10,22 @@ use std::io::Read;
 use std::rt::Files;
 use std::str::from_utf8;
 
+pub mod cases;
 pub mod lists;
 pub mod output;
 pub mod refusals;
 
-pub use output::{
-    say, say_buffer, say_heading, say_number, say_numbers, say_signed, say_signed_numbers,
-};
+pub use cases::{each_case, each_case_of_three, each_file, each_room};
+pub use output::{say, say_answer, say_buffer, say_heading, say_number, say_numbers, say_written};
 
 // One more than the bytes of the longest legal file, so that a longer one is refused and not cut to fit.
 pub const ROOM: usize = Header::LONGEST_FILE + 1;
 
-// As many bytes as a list of the paths of cases has at most.
+// As many bytes as a list of cases has at most.
 pub const LIST: usize = 65536;
 
-// As many bytes as a list of the names of cases has at most.
-pub const NAMES: usize = 4096;
-
-// What a list's cases are tried for: their answers, or their answers with buffers of many lengths.
-#[derive(Clone, Copy)]
-pub enum Trial {
-    Check,
-    Rooms,
-}
-
 // Reads until the buffer is full, the file ends or a read fails, and gives how many bytes it put at the buffer's start.
+// Unlike `files::read_whole` it keeps what was read before a failure. A turn adds as many bytes as the system gives, so no `for` counts the turns.
 fn read_full<R: Read>(file: &mut R, buffer: &mut [u8]) -> usize
     ensures { IsPrefixLen result buffer.new }
 {

@@ -7,14 +7,12 @@ pub fn find(text: &[u8], start: usize, byte: u8) -> usize
     requires { start ≤ length text.now }
     ensures { (result ≡ place_of text.now start byte) × (start ≤ result) × (result ≤ length text.now) }
 {
-    let mut at = start;
-    while at < text.len() {
+    for at in start..text.len() {
         if text[at] == byte {
             return at;
         }
-        at += 1;
     }
-    at
+    text.len()
 }
 
 // The line that begins at `start`; an empty one at the list's end.

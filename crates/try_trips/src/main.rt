@@ -1,58 +1,16 @@
-// Tries the round trips: the study game of document 003 with its plans M and F, files that are refused, and buffers that are too short.
+// Tries the round trips: the study game with its plans M and F, files that are refused, and buffers that are too short.
 #![tactic(auto)]
 
-use checks::WriteAnswer;
-use fields::FieldsAnswer;
-use plans::WeightsAnswer;
+use columns::GameBuffers;
+use fitting::GameLists;
 use records::Header;
-use trials::{ROOM, load, say, say_buffer, say_number, say_numbers, say_signed_numbers};
+use trials::{ROOM, load, say, say_answer, say_buffer, say_number, say_numbers, say_written};
 
 // A weight that does not fit its field, which is as wide as a count's.
 const TOO_LARGE: u64 = 1 << Header::COUNT_BITS;
 
 // What each lent byte is before the call.
 const HELD: u8 = 165;
-
-// The number of a refusal.
-fn say_refusal(rt: &impl Print, number: u64) {
-    say_number(rt, b": refusal ", number);
-}
-
-// The answer of what writes a file again.
-fn say_written(rt: &impl Print, answer: WriteAnswer) {
-    match answer {
-        WriteAnswer::Written(size) => say_number(rt, b": written ", size as u64),
-        WriteAnswer::Refused(number) => say_refusal(rt, number),
-    }
-}
-
-// The answer of what reads weights back.
-fn say_weights(rt: &impl Print, answer: WeightsAnswer) {
-    match answer {
-        WeightsAnswer::Given { d1, d2, count } => {
-            say_number(rt, b": given ", d1);
-            say_number(rt, b" ", d2);
-            say_number(rt, b" count ", count);
-        }
-        WeightsAnswer::Refused(number) => say_refusal(rt, number),
-    }
-}
-
-// The answer of what reads a game's fields back.
-fn say_fields(rt: &impl Print, answer: FieldsAnswer) {
-    match answer {
-        FieldsAnswer::Given {
-            nodes,
-            sets,
-            root_weight,
-        } => {
-            say_number(rt, b": given ", nodes);
-            say_number(rt, b" ", sets);
-            say_number(rt, b" ", root_weight);
-        }
-        FieldsAnswer::Refused(number) => say_refusal(rt, number),
-    }
-}
 
 // A plan written again, into one buffer.
 fn rewrite_plan(rt: &impl Print, game: &[u8], plan: &[u8], out: &mut [u8]) {
@@ -63,10 +21,8 @@ fn rewrite_plan(rt: &impl Print, game: &[u8], plan: &[u8], out: &mut [u8]) {
 
 // Into a buffer with room for one byte more than the study game's plans have, and into one that is a byte too short.
 fn try_plan(rt: &impl Print, game: &[u8], plan: &[u8]) {
-    let mut out = [HELD; 14];
-    let mut short = [HELD; 12];
-    rewrite_plan(rt, game, plan, &mut out);
-    rewrite_plan(rt, game, plan, &mut short);
+    rewrite_plan(rt, game, plan, &mut [HELD; 14]);
+    rewrite_plan(rt, game, plan, &mut [HELD; 12]);
 }
 
 // A game written again, into one buffer.
@@ -78,186 +34,102 @@ fn rewrite_game(rt: &impl Print, game: &[u8], out: &mut [u8]) {
 
 // Into a buffer with room for one byte more than the study game has, and into one that is a byte too short.
 fn try_game(rt: &impl Print, game: &[u8]) {
-    let mut out = [HELD; 81];
-    let mut short = [HELD; 79];
-    rewrite_game(rt, game, &mut out);
-    rewrite_game(rt, game, &mut short);
+    rewrite_game(rt, game, &mut [HELD; 81]);
+    rewrite_game(rt, game, &mut [HELD; 79]);
 }
 
 // Weights written and read back, into one buffer.
 fn reread_plan(rt: &impl Print, game: &[u8], d1: u64, d2: u64, weights: &[u64], out: &mut [u64]) {
     say(rt, b"weights");
-    say_weights(rt, plan_trips::reread_plan(game, d1, d2, weights, out));
+    let answer = plan_trips::reread_plan(game, d1, d2, weights, out);
+    say_answer(rt, answer, |given| {
+        say_numbers(rt, b": given", &[given.d1, given.d2]);
+        say_number(rt, b" count ", given.count);
+    });
     say_numbers(rt, b" weights", out);
     say(rt, b"\n");
 }
 
 // Into a buffer with room for one weight more than the study game's plans have, and into one that is an entry too short.
 fn try_weights(rt: &impl Print, game: &[u8], d1: u64, d2: u64, weights: &[u64]) {
-    let mut out = [7u64; 7];
-    let mut short = [7u64; 5];
-    reread_plan(rt, game, d1, d2, weights, &mut out);
-    reread_plan(rt, game, d1, d2, weights, &mut short);
+    reread_plan(rt, game, d1, d2, weights, &mut [7u64; 7]);
+    reread_plan(rt, game, d1, d2, weights, &mut [7u64; 5]);
 }
 
 // The weights of plan M; with a D1 that does not fit them, with a D2 that does not fit its field, and with a game that is refused. Then more weights than any game has moves.
 fn try_weights_of(rt: &impl Print, game: &[u8], plan: &[u8], refused: &[u8]) {
     let mut weights = [0u64; 6];
-    plans::plan_fields(game, plan, &mut weights);
+    let _ = plans::plan_fields(game, plan, &mut weights);
     try_weights(rt, game, 3, 3, &weights);
     try_weights(rt, game, 4, 3, &weights);
     try_weights(rt, game, 3, TOO_LARGE, &weights);
     try_weights(rt, refused, 3, 3, &weights);
-    let ones = [1u64; 5001];
-    try_weights(rt, game, 3, 3, &ones);
+    try_weights(rt, game, 3, 3, &[1u64; 5001]);
 }
 
 // Fields of a game of 3 sets and 9 nodes written and read back. Buffers of 7s have room for one more of each; the last is given, and shown with two others.
-fn reread_game(
-    rt: &impl Print,
-    root_weight: u64,
-    set_players: &[u64],
-    set_moves: &[u64],
-    kinds: &[u64],
-    parents: &[u64],
-    moves: &[u64],
-    weights: &[u64],
-    node_sets: &[u64],
-    chance_moves: &[u64],
-    payoffs1: &[i64],
-    payoffs2: &[i64],
-    payoffs2_out: &mut [i64],
-) {
-    let mut set_players_out = [7u64; 4];
-    let mut set_moves_out = [7u64; 4];
-    let mut kinds_out = [7u64; 10];
-    let mut parents_out = [7u64; 10];
-    let mut moves_out = [7u64; 10];
-    let mut weights_out = [7u64; 10];
-    let mut node_sets_out = [7u64; 10];
-    let mut chance_moves_out = [7u64; 10];
-    let mut payoffs1_out = [7i64; 10];
+fn reread_game(rt: &impl Print, given: &GameLists<'_>, payoffs2: &mut [i64]) {
+    let mut buffers = GameBuffers {
+        set_players: &mut [7; 4],
+        set_moves: &mut [7; 4],
+        kinds: &mut [7; 10],
+        parents: &mut [7; 10],
+        moves: &mut [7; 10],
+        weights: &mut [7; 10],
+        node_sets: &mut [7; 10],
+        chance_moves: &mut [7; 10],
+        payoffs1: &mut [7; 10],
+        payoffs2,
+    };
+    let answer = game_trips::reread_game(given, &mut buffers);
     say(rt, b"fields");
-    say_fields(
-        rt,
-        game_trips::reread_game(
-            root_weight,
-            set_players,
-            set_moves,
-            kinds,
-            parents,
-            moves,
-            weights,
-            node_sets,
-            chance_moves,
-            payoffs1,
-            payoffs2,
-            &mut set_players_out,
-            &mut set_moves_out,
-            &mut kinds_out,
-            &mut parents_out,
-            &mut moves_out,
-            &mut weights_out,
-            &mut node_sets_out,
-            &mut chance_moves_out,
-            &mut payoffs1_out,
-            payoffs2_out,
-        ),
-    );
-    say_numbers(rt, b" set-players", &set_players_out);
-    say_numbers(rt, b" parents", &parents_out);
-    say_signed_numbers(rt, b" payoffs2", payoffs2_out);
+    say_answer(rt, answer, |read| {
+        say_numbers(rt, b": given", &[read.nodes, read.sets, read.root_weight]);
+    });
+    say_numbers(rt, b" set-players", buffers.set_players);
+    say_numbers(rt, b" parents", buffers.parents);
+    say_numbers(rt, b" payoffs2", buffers.payoffs2);
     say(rt, b"\n");
 }
 
-// With a last buffer that has room, and with one that is an entry too short.
-fn try_fields(
-    rt: &impl Print,
-    root_weight: u64,
-    set_players: &[u64],
-    set_moves: &[u64],
-    kinds: &[u64],
-    parents: &[u64],
-    moves: &[u64],
-    weights: &[u64],
-    node_sets: &[u64],
-    chance_moves: &[u64],
-    payoffs1: &[i64],
-    payoffs2: &[i64],
-) {
-    let mut out = [7i64; 10];
-    let mut short = [7i64; 8];
-    reread_game(
-        rt,
+// The fields that were read, with this D0: with a last buffer that has room, and with one that is an entry too short.
+fn try_fields(rt: &impl Print, root_weight: u64, read: &GameBuffers<'_>) {
+    let given = GameLists {
         root_weight,
-        set_players,
-        set_moves,
-        kinds,
-        parents,
-        moves,
-        weights,
-        node_sets,
-        chance_moves,
-        payoffs1,
-        payoffs2,
-        &mut out,
-    );
-    reread_game(
-        rt,
-        root_weight,
-        set_players,
-        set_moves,
-        kinds,
-        parents,
-        moves,
-        weights,
-        node_sets,
-        chance_moves,
-        payoffs1,
-        payoffs2,
-        &mut short,
-    );
+        set_players: read.set_players,
+        set_moves: read.set_moves,
+        kinds: read.kinds,
+        parents: read.parents,
+        moves: read.moves,
+        weights: read.weights,
+        node_sets: read.node_sets,
+        chance_moves: read.chance_moves,
+        payoffs1: read.payoffs1,
+        payoffs2: read.payoffs2,
+    };
+    reread_game(rt, &given, &mut [7i64; 10]);
+    reread_game(rt, &given, &mut [7i64; 8]);
 }
 
-// The fields of the study game, with this D0.
-fn try_fields_of(rt: &impl Print, game: &[u8], root_weight: u64) {
-    let mut set_players = [0u64; 3];
-    let mut set_moves = [0u64; 3];
-    let mut kinds = [0u64; 9];
-    let mut parents = [0u64; 9];
-    let mut moves = [0u64; 9];
-    let mut weights = [0u64; 9];
-    let mut node_sets = [0u64; 9];
-    let mut chance_moves = [0u64; 9];
-    let mut payoffs1 = [0i64; 9];
-    let mut payoffs2 = [0i64; 9];
-    fields::game_fields(
-        game,
-        &mut set_players,
-        &mut set_moves,
-        &mut kinds,
-        &mut parents,
-        &mut moves,
-        &mut weights,
-        &mut node_sets,
-        &mut chance_moves,
-        &mut payoffs1,
-        &mut payoffs2,
-    );
-    try_fields(
-        rt,
-        root_weight,
-        &set_players,
-        &set_moves,
-        &kinds,
-        &parents,
-        &moves,
-        &weights,
-        &node_sets,
-        &chance_moves,
-        &payoffs1,
-        &payoffs2,
-    );
+// The fields of the study game.
+fn try_fields_of(rt: &impl Print, game: &[u8]) {
+    let mut buffers = GameBuffers {
+        set_players: &mut [0; 3],
+        set_moves: &mut [0; 3],
+        kinds: &mut [0; 9],
+        parents: &mut [0; 9],
+        moves: &mut [0; 9],
+        weights: &mut [0; 9],
+        node_sets: &mut [0; 9],
+        chance_moves: &mut [0; 9],
+        payoffs1: &mut [0; 9],
+        payoffs2: &mut [0; 9],
+    };
+    let _ = fields::game_fields(game, &mut buffers);
+    // 2 is not the root's weight, and the last does not fit its field.
+    for root_weight in [1, 2, TOO_LARGE] {
+        try_fields(rt, root_weight, &buffers);
+    }
 }
 
 fn main(rt: HostRuntime) {
@@ -276,8 +148,5 @@ fn main(rt: HostRuntime) {
     try_plan(&rt, game, game);
     try_plan(&rt, refused, m);
     try_weights_of(&rt, game, m, refused);
-    // 2 is not the root's weight, and the last does not fit its field.
-    try_fields_of(&rt, game, 1);
-    try_fields_of(&rt, game, 2);
-    try_fields_of(&rt, game, TOO_LARGE);
+    try_fields_of(&rt, game);
 }

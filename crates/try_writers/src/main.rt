@@ -2,22 +2,17 @@
 // A case's file is words of 64 bits, most significant byte first, each at a fixed place.
 #![tactic(auto)]
 
-ghost use Rattle.std.specs.Prelude.{◌≤◌, ◌+◌, ◌^◌, ◌≡◌, length, take};
+ghost use Rattle.std.specs.Prelude.{◌≤◌, ◌^◌, length};
 
-use entry::WriteAnswer;
+use entry::{GameLists, Refusal};
 use records::NodeRecord;
-use std::rt::Files;
-use trials::lists::{line_at, next_line};
-use trials::{NAMES, ROOM, load, say, say_buffer, say_number};
+use trials::{ROOM, each_file, say, say_buffer, say_number, say_written};
 
 // One more than a game has nodes or sets.
 const TOO_MANY: usize = NodeRecord::NODES + 1;
 
 // The most words of a case: a game's room and D0, then ten lists of a count and 16 entries.
 const WORDS: usize = 172;
-
-// The bytes of so many words.
-const CASE_BYTES: usize = 1376;
 
 // The most entries of a list in a case.
 const ENTRIES: usize = 16;
@@ -31,207 +26,137 @@ const HELD: u8 = 165;
 // How many bytes of a longer buffer are shown.
 const SHOWN: usize = 8;
 
-// What a case gives a writer.
-#[derive(Clone, Copy)]
-enum Kind {
-    Game,
-    Plan,
-}
-
-// What the first bytes of a buffer hold.
-fn say_start(rt: &impl Print, buffer: &[u8])
-    requires { 8 ≤ length buffer.now }
-{
-    say_buffer(rt, &buffer[..SHOWN]);
-}
-
-// The answer of a writer.
-fn say_written(rt: &impl Print, answer: WriteAnswer) {
-    match answer {
-        WriteAnswer::Written(size) => say_number(rt, b": written ", size as u64),
-        WriteAnswer::Refused(number) => say_number(rt, b": refusal ", number),
-    }
-}
-
 // A number from a file as a length of at most `most`.
 fn at_most(number: u64, most: usize) -> usize
     ensures { result ≤ most }
 {
-    let length = bits::index(number);
-    if length <= most { length } else { most }
+    number.min(most as u64) as usize
 }
 
-// The entries of the list whose count stands at word `at`.
-fn list(words: &[u64], at: usize) -> &[u64]
-    requires { at + 17 ≤ length words.now }
-    ensures { length result.now ≤ 16 }
+// Of the list whose count stands at word `at`, the entries as they are in `entries`.
+fn list<'a, T>(words: &[u64; WORDS], entries: &'a [T; WORDS], at: usize) -> &'a [T]
+    requires { at ≤ 155 }
 {
     let start = at + 1;
     let end = start + at_most(words[at], ENTRIES);
-    &words[start..end]
+    let all = &entries[..];
+    &all[start..end]
 }
 
-// A word as two's complement: `x - 2^64` in steps that each fit an `i64`.
-fn signed(x: u64) -> i64 {
-    if x < 9223372036854775808 {
-        x as i64
-    } else {
-        -1 - ((18446744073709551615 - x) as i64)
-    }
+// Writes the game that the words give, its payoffs in two's complement.
+fn write_game(words: &[u64; WORDS], out: &mut [u8]) -> Result<usize, Refusal> {
+    let signed = words.map(|word| word.cast_signed());
+    let lists = GameLists {
+        root_weight: words[1],
+        set_players: list(words, words, 2),
+        set_moves: list(words, words, 19),
+        kinds: list(words, words, 36),
+        parents: list(words, words, 53),
+        moves: list(words, words, 70),
+        weights: list(words, words, 87),
+        node_sets: list(words, words, 104),
+        chance_moves: list(words, words, 121),
+        payoffs1: list(words, &signed, 138),
+        payoffs2: list(words, &signed, 155),
+    };
+    entry::write_game(&lists, out)
 }
 
-// Payoffs from their words into the buffer, and how many.
-fn put_payoffs(words: &[u64], payoffs: &mut [i64]) -> usize
-    requires { (length words.now ≤ 16) × (length payoffs.old ≡ 16) }
-    ensures { (result ≤ length payoffs.new) × (result ≡ length (take result payoffs.new)) }
-{
-    let mut at = 0;
-    while at < words.len() {
-        payoffs[at] = signed(words[at]);
-        at += 1;
-    }
-    at
-}
-
-// Writes the game that the words give, but for its payoffs.
-fn write_game(words: &[u64], payoffs1: &[i64], payoffs2: &[i64], out: &mut [u8]) -> WriteAnswer
-    requires { length words.now ≡ 172 }
-{
-    entry::write_game(
-        words[1],
-        list(words, 2),
-        list(words, 19),
-        list(words, 36),
-        list(words, 53),
-        list(words, 70),
-        list(words, 87),
-        list(words, 104),
-        list(words, 121),
-        payoffs1,
-        payoffs2,
-        out,
-    )
-}
-
-// The answer to the game that the words give, and what the buffer holds afterwards.
-fn try_game(rt: &impl Print, words: &[u64], out: &mut [u8])
-    requires { length words.now ≡ 172 }
-{
-    let mut payoffs1 = [0i64; ENTRIES];
-    let count1 = put_payoffs(list(words, 138), &mut payoffs1);
-    let mut payoffs2 = [0i64; ENTRIES];
-    let count2 = put_payoffs(list(words, 155), &mut payoffs2);
-    say_written(
-        rt,
-        write_game(words, &payoffs1[..count1], &payoffs2[..count2], out),
-    );
-    say_buffer(rt, out);
-}
-
-// The answer to the plan that the words give, and what the buffer holds afterwards.
-fn try_plan(rt: &impl Print, words: &[u64], out: &mut [u8])
-    requires { length words.now ≡ 172 }
-{
-    say_written(
-        rt,
-        entry::write_plan(words[1], words[2], list(words, 3), out),
-    );
-    say_buffer(rt, out);
-}
-
-// The answer to what the words give, with a buffer cut to the length that the first gives.
-fn try_words(rt: &impl Print, kind: Kind, words: &[u64])
-    requires { length words.now ≡ 172 }
-{
-    let mut buffer = [HELD; MOST];
-    let room = at_most(words[0], MOST);
-    match kind {
-        Kind::Game => try_game(rt, words, &mut buffer[..room]),
-        Kind::Plan => try_plan(rt, words, &mut buffer[..room]),
-    }
+// Writes the plan that the words give.
+fn write_plan(words: &[u64; WORDS], out: &mut [u8]) -> Result<usize, Refusal> {
+    entry::write_plan(words[1], words[2], list(words, words, 3), out)
 }
 
 // The words of a case's file; 0 past its end.
-fn read_words(file: &[u8], words: &mut [u64])
-    requires { length words.old ≡ 172 }
-{
-    for i in 0..WORDS {
-        words[i] = bits::read_field(file, 64 * i, 64);
-    }
-}
-
-// The line of one case.
-fn try_case(rt: &(impl Files + Print), kind: Kind, name: &[u8]) {
-    let mut bytes = [0u8; CASE_BYTES];
-    let file = load(rt, name, &mut bytes);
+fn read_words(file: &[u8]) -> [u64; WORDS] {
     let mut words = [0u64; WORDS];
-    read_words(file, &mut words);
-    say(rt, name);
-    try_words(rt, kind, &words);
-}
-
-// The line of each case that is named.
-fn try_cases(rt: &(impl Files + Print), kind: Kind, names: &[u8]) {
-    let mut start = 0;
-    while start < names.len() {
-        try_case(rt, kind, line_at(names, start));
-        start = next_line(names, start);
+    let (fields, _) = file.as_chunks::<8>();
+    for (word, bytes) in words.iter_mut().zip(fields) {
+        *word = u64::from_be_bytes(*bytes);
     }
+    words
 }
 
-// The cases that the file names.
-fn try_list(rt: &(impl Files + Print), kind: Kind, name: &[u8]) {
-    let mut names = [0u8; NAMES];
-    try_cases(rt, kind, load(rt, name, &mut names));
-}
-
-// Writes a game with D0 = 1 whose lists of sets are one list, and those of nodes another.
-fn write_alike(sets: &[u64], nodes: &[u64], payoffs: &[i64], out: &mut [u8]) -> WriteAnswer {
-    entry::write_game(
-        1, sets, sets, nodes, nodes, nodes, nodes, nodes, nodes, payoffs, payoffs, out,
-    )
+// The line of one case: the answer to what the words give, and what a buffer cut to the length that the first gives holds afterwards.
+fn try_case<F: FnOnce(&[u64; WORDS], &mut [u8]) -> Result<usize, Refusal>>(
+    rt: &impl Print,
+    name: &[u8],
+    file: &[u8],
+    write: F,
+)
+    requires { F.IsAlwaysCallable write }
+{
+    let words = read_words(file);
+    let mut buffer = [HELD; MOST];
+    let out = &mut buffer[..at_most(words[0], MOST)];
+    say(rt, name);
+    say_written(rt, write(&words, out));
+    say_buffer(rt, out);
 }
 
 // The answer, and the first bytes of a buffer that has room for any file.
-fn try_alike(rt: &impl Print, sets: &[u64], nodes: &[u64], payoffs: &[i64]) {
+fn try_long<F: FnOnce(&mut [u8]) -> Result<usize, Refusal>>(rt: &impl Print, write: F)
+    requires { F.IsAlwaysCallable write }
+{
     let mut buffer = [HELD; ROOM];
-    say_written(rt, write_alike(sets, nodes, payoffs, &mut buffer));
-    say_start(rt, &buffer);
+    say_written(rt, write(&mut buffer));
+    say_buffer(rt, &buffer[..SHOWN]);
+}
+
+// Writes a game with D0 = 1 whose lists of sets are one list, and those of nodes another.
+fn write_alike(
+    sets: &[u64],
+    nodes: &[u64],
+    payoffs: &[i64],
+    out: &mut [u8],
+) -> Result<usize, Refusal> {
+    let lists = GameLists {
+        root_weight: 1,
+        set_players: sets,
+        set_moves: sets,
+        kinds: nodes,
+        parents: nodes,
+        moves: nodes,
+        weights: nodes,
+        node_sets: nodes,
+        chance_moves: nodes,
+        payoffs1: payoffs,
+        payoffs2: payoffs,
+    };
+    entry::write_game(&lists, out)
 }
 
 // The line of a game of so many sets and nodes, all their fields 0.
 fn try_long_game(rt: &impl Print, sets: usize, nodes: usize)
     requires { (sets ≤ 2 ^ 12) × (nodes ≤ 2 ^ 12) }
 {
-    say_number(rt, b"", sets as u64);
-    say_number(rt, b" sets and ", nodes as u64);
+    say_number(rt, b"", sets);
+    say_number(rt, b" sets and ", nodes);
     say(rt, b" nodes");
-    let of_sets = [0u64; TOO_MANY];
-    let of_nodes = [0u64; TOO_MANY];
+    let zeros = [0u64; TOO_MANY];
     let payoffs = [0i64; TOO_MANY];
-    try_alike(rt, &of_sets[..sets], &of_nodes[..nodes], &payoffs[..nodes]);
+    try_long(rt, |out| {
+        write_alike(&zeros[..sets], &zeros[..nodes], &payoffs[..nodes], out)
+    });
 }
 
-// The answer to a plan with D1 = D2 = 1, and the first bytes of its buffer.
-fn try_weights(rt: &impl Print, weights: &[u64]) {
-    let mut buffer = [HELD; ROOM];
-    say_written(rt, entry::write_plan(1, 1, weights, &mut buffer));
-    say_start(rt, &buffer);
-}
-
-// The line of a plan of so many weights, all of them 1.
+// The line of a plan with D1 = D2 = 1 of so many weights, all of them 1.
 fn try_long_plan(rt: &impl Print, count: usize)
     requires { count ≤ 5001 }
 {
-    say_number(rt, b"", count as u64);
+    say_number(rt, b"", count);
     say(rt, b" weights");
     let ones = [1u64; 5001];
-    try_weights(rt, &ones[..count]);
+    try_long(rt, |out| entry::write_plan(1, 1, &ones[..count], out));
 }
 
 fn main(rt: HostRuntime) {
-    try_list(&rt, Kind::Game, b"games");
-    try_list(&rt, Kind::Plan, b"plans");
+    each_file(&rt, b"games", |name, file| {
+        try_case(&rt, name, file, |words, out| write_game(words, out));
+    });
+    each_file(&rt, b"plans", |name, file| {
+        try_case(&rt, name, file, |words, out| write_plan(words, out));
+    });
     try_long_game(&rt, NodeRecord::NODES, 0);
     try_long_game(&rt, TOO_MANY, 0);
     try_long_game(&rt, 0, NodeRecord::NODES);

@@ -40,11 +40,12 @@ use Rattle.pair.proofs.Pairs.{PairOpened}
 use Rattle.form.specs.declared.Values.{Values}
 use Rattle.responses.specs.BestMoves.{own_best_move}
 use Rattle.form.specs.Values.{values_of}
-use Rattle.judgement.specs.declared.Verdict.{Verdict as NumberVerdict}
-use Rattle.judgement.specs.declared.Verdict.TheVariants as Numbers
+use Rattle.std.specs.Prelude.{Option, Some, None}
+use Rattle.loaded.specs.Players.{as_player}
+use Rattle.judgement.specs.declared.Deviation.{Deviation}
 use Rattle.judgement.specs.Judgement.{judged, GainFits}
 use Rattle.verdict.specs.Showing.{showing, ShowAsked}
-use Rattle.judgement.proofs.Judgement.{numbered, without_moves, judged_is, gains_fit, says_deviation}
+use Rattle.judgement.proofs.Judgement.{without_moves, judged_is, gains_fit, says_deviation}
 use Rattle.evaluation.proofs.EvaluatedPairs.{weight_is, sets_are}
 use Rattle.verdict.proofs.Strategies.{strategy_is}
 use Rattle.pair.proofs.PairDenominators.{d1_is, d2_is}
@@ -106,8 +107,8 @@ module _ (game plan : List ℕ) (h : PairHeader) (o : PairOpened game plan h) wh
     unfolding values_of
     judge_asks = rw (values, d1_is game plan h o, d2_is game plan h o) (file_gain one, file_gain two)
 
-    -- the judgement d on it is the model's verdict in numbers
-    pub judged_as : {d : NumberVerdict} → d ≡ judged v.value1 v.value2 v.best1 v.best2 h.denominators.d1 h.denominators.d2 → d ≡ without_moves (Call.verdict_of (files game plan))
+    -- the judgement d on it is the model's verdict, without the moves
+    pub judged_as : {d : Option Deviation} → d ≡ judged v.value1 v.value2 v.best1 v.best2 h.denominators.d1 h.denominators.d2 → d ≡ without_moves (Call.verdict_of (files game plan))
     unfolding values_of
     judged_as e = e ∙ rw (values, d1_is game plan h o, d2_is game plan h o) (judged_is (game_of game) (plan_pair_of (game_of game) plan))
 
@@ -115,44 +116,17 @@ module _ (game plan : List ℕ) (h : PairHeader) (o : PairOpened game plan h) wh
   pub show_asks : {numbers moves : List ℕ} → Held player_section (player_field (game_of game)) (game_of game).sets numbers → (game_of game).sets ≤ length moves → ShowAsked numbers h.counts.sets moves
   show_asks held l = let sets = sets_are game plan h o in record { game = game_of game; sets_are = sets; players = held; moves_long = omega (arith, sets) }
 
--- The player that a deviation names, 1 or else 2, and what the model's verdict then is.
-module _ (game plan : List ℕ) (player : ℕ) (z : ℤ) (e : without_moves (Call.verdict_of (files game plan)) ≡ Numbers.Deviation player z) where
-  abbrev responds : Player → Verdict
-  responds p = deviation p z (best_response (game_of game) p (plan_pair_of (game_of game) plan (other p)))
+-- A deviation that was found, of either player, and what the model's verdict then is.
+pub deviates : (game plan : List ℕ) (d : Deviation) → without_moves (Call.verdict_of (files game plan)) ≡ Some d → (p : Player) → as_player d.player ≡ p → Call.verdict_of (files game plan) ≡ deviation p d.gain (best_response (game_of game) p (plan_pair_of (game_of game) plan (other p)))
+deviates game plan d e p is = rw is at (says_deviation (game_of game) (plan_pair_of (game_of game) plan) d e)
 
-  pub first_deviates : player ≡ 1 → Call.verdict_of (files game plan) ≡ responds one
-  first_deviates n = rw n at (says_deviation (game_of game) (plan_pair_of (game_of game) plan) player z e).1
-
-  pub second_deviates : ¬ (player ≡ 1) → Call.verdict_of (files game plan) ≡ responds two
-  second_deviates n =
-      let s = says_deviation (game_of game) (plan_pair_of (game_of game) plan) player z e in
-      go (numbered player) refl s.0 s.1
-    where
-      go : (p : Player) → numbered player ≡ p → player ≡ player_number (numbered player) → Call.verdict_of (files game plan) ≡ responds (numbered player) → Call.verdict_of (files game plan) ≡ responds two
-      go one f k v = absurd (n (k ∙ ap player_number f))
-      go two f k v = v ∙ ap responds f
-
--- a stated gain fits an i64
-gain_stated : (g : Game) (q : PlanPair) → Budget g q → (p : Player) (z : ℤ) (l : List Move) → verdict g q ≡ deviation p z l → SFits w64 z
-unfolding verdict deviation_of
-gain_stated g q B p z l e = subst Fitting e (go (lt_z (pos 0) (gain g q one)) (lt_z (pos 0) (gain g q two)))
-  where
-    Fitting : Verdict → Type 0
-    Fitting equilibrium = Unit {0}
-    Fitting (deviation p z l) = SFits w64 z
-
-    go : (a b : Bool) → Fitting (cond a (deviation_of g q one) (cond b (deviation_of g q two) equilibrium))
-    go true b = B.gains one
-    go false true = B.gains two
-    go false false = tt
-
--- The deviation of p with the best moves that were evaluated for him, as it is shown; its gain is read from an i64.
+-- The deviation of p with the best moves that were evaluated for him, as it is shown.
 module _ (game plan buffer : List ℕ) (h : PairHeader) (o : PairOpened game plan h) (p : Player) (z : ℤ) (base : ℕ) where
-  pub strategy_given : Call.verdict_of (files game plan) ≡ deviation p z (best_response (game_of game) p (plan_pair_of (game_of game) plan (other p))) → base ≡ Call.base_of (files game plan) → {moves : List ℕ} → Holds (own_best_move (game_of game) p (plan_pair_of (game_of game) plan (other p))) (game_of game).sets moves → {r : Outcome (ℕ ∷ []) Stated} → r ≡ run (showing (player_number p) (to_z w64 (of_z w64 z)) base) (map (item moves) (sets_of (game_of game) p)) (buffer, tt) → Judgement game plan buffer r
+  pub strategy_given : Call.verdict_of (files game plan) ≡ deviation p z (best_response (game_of game) p (plan_pair_of (game_of game) plan (other p))) → base ≡ Call.base_of (files game plan) → {moves : List ℕ} → Holds (own_best_move (game_of game) p (plan_pair_of (game_of game) plan (other p))) (game_of game).sets moves → {r : Outcome (ℕ ∷ []) Stated} → r ≡ run (showing (player_number p) z base) (map (item moves) (sets_of (game_of game) p)) (buffer, tt) → Judgement game plan buffer r
   strategy_given v based {moves} best is =
       let g = game_of game in
       let y = plan_pair_of g plan (other p) in
-      deviation_given game plan buffer o.none p z (best_response g p y) v base (map (item moves) (sets_of g p)) based (strategy_is g p y moves best) (rw (to_z-of_z (gain_stated g (plan_pair_of g plan) (file_budget game plan h o) p z _ v)) at is)
+      deviation_given game plan buffer o.none p z (best_response g p y) v base (map (item moves) (sets_of g p)) based (strategy_is g p y moves best) is
 
 -- D1 × D2 and D0 × D1 × D2 are far below 2 ^ 64
 pub base_small : (a b c : ℕ) → a ≤ count_limit → b ≤ 65535 → c ≤ 65535 → (b * c ≤ 65535 * 65535) × (a * (b * c) ≤ count_limit * (65535 * 65535))

@@ -1,36 +1,34 @@
 // The calls on a pair of files: values and best values, and the verdict.
 #![tactic(auto)]
 
+use loaded::Player;
+
 pub mod values;
 pub mod verdicts;
 
-// The players' values over D0 × D1 × D2, their best values over D0 × the other's D, and D0, D1 and D2; a refusal is 1 to 16.
+// The players' values over D0 × D1 × D2, their best values over D0 × the other's D, and D0, D1 and D2.
 #[derive(Clone, Copy)]
-pub enum ValuesAnswer {
-    Given {
-        value1: i64,
-        value2: i64,
-        best1: i64,
-        best2: i64,
-        root_weight: u64,
-        d1: u64,
-        d2: u64,
-    },
-    Refused(u64),
+pub struct PairValues {
+    pub value1: i64,
+    pub value2: i64,
+    pub best1: i64,
+    pub best2: i64,
+    pub root_weight: u64,
+    pub d1: u64,
+    pub d2: u64,
 }
 
-// The verdict on a pair, with D0 × D1 × D2: accepted; or a player, 1 or 2, who can gain, his gain over it, and how many sets his strategy covers,
-// whose moves stand in the lent buffer; a refusal is 1 to 16, or 18.
+// A player who can gain, his gain over D0 × D1 × D2, and how many sets his strategy covers.
 #[derive(Clone, Copy)]
-pub enum VerdictAnswer {
-    Accepted {
-        base: u64,
-    },
-    Deviation {
-        player_number: u64,
-        gain: i64,
-        base: u64,
-        sets: u64,
-    },
-    Refused(u64),
+pub struct Shown {
+    pub player: Player,
+    pub gain: i64,
+    pub sets: u64,
+}
+
+// The verdict on a pair, with D0 × D1 × D2: it is accepted where no deviation is shown.
+#[derive(Clone, Copy)]
+pub struct PairVerdict {
+    pub base: u64,
+    pub deviation: Option<Shown>,
 }

@@ -1,8 +1,8 @@
 // The verdict on a pair.
-ghost use Rattle.std.specs.Prelude.{◌≡◌, map, suc, ◌≤◌, ◌<◌};
+ghost use Rattle.std.specs.Prelude.{◌≡◌, map, ◌≤◌};
 ghost use Rattle.algebra.specs.Arrays.{item};
 ghost use Rattle.algebra.specs.Sections.{Held};
-ghost use Rattle.model.specs.Game.{Game, player_of};
+ghost use Rattle.model.specs.Game.{Game, player_number};
 ghost use Rattle.model.specs.Earnings.{base_of, sets_of};
 ghost use Rattle.model.specs.Call.{outcome, run};
 ghost use Rattle.model.specs.Limits.{weight_limit, count_limit};
@@ -11,15 +11,17 @@ ghost use Rattle.model.specs.Calls.Verdict.{verdict_call};
 ghost use Rattle.model.specs.Demand3.{Demand3Met};
 ghost use Rattle.loaded.specs.Sections.{player_section};
 ghost use Rattle.judgement.specs.Judgement.{judged, GainFits};
-ghost use Rattle.verdict.specs.Answers.{verdict_answered};
+ghost use Rattle.loaded.specs.Players.{as_player};
+ghost use Rattle.checks.specs.Answers.{answered};
+ghost use Rattle.verdict.specs.Answers.{verdict_seen};
 ghost use Rattle.verdict.specs.Showing.{showing, ShowAsked};
 
-use super::VerdictAnswer;
-use checks::Checked;
-use evaluation::PairEvaluated;
+use super::{PairVerdict, Shown};
+use checks::Refusal;
+use evaluation::Evaluated;
 use form::Values;
-use judgement::{Verdict, strategy};
-use loaded::Section;
+use judgement::{Deviation, strategy};
+use loaded::{Player, Section};
 use pair::PairHeader;
 use records::{Denominators, NodeRecord};
 
@@ -34,7 +36,7 @@ pub fn base(pair: PairHeader) -> u64
 }
 
 // Who can gain, and how much.
-pub fn judge(values: Values, denominators: Denominators) -> Verdict
+pub fn judge(values: Values, denominators: Denominators) -> Option<Deviation>
     requires { GainFits denominators.d1 values.best1 values.value1 × GainFits denominators.d2 values.best2 values.value2 }
     ensures { result ≡ judged values.value1 values.value2 values.best1 values.best2 denominators.d1 denominators.d2 }
 {
@@ -48,66 +50,59 @@ pub fn judge(values: Values, denominators: Denominators) -> Verdict
     )
 }
 
-// The deviation of a player, given by his bit, with the moves of his sets in the buffer; 18 where it is too short for them.
+// A deviation, with the moves of its player's sets in the buffer; refused where that is too short for them.
 fn show(
     numbers: &[u16],
     sets: usize,
-    player: usize,
-    gain: i64,
+    found: Deviation,
     base: u64,
     moves: &[u16],
     out: &mut [u64],
-) -> VerdictAnswer
-    requires { (player < 2) × ShowAsked numbers.now sets moves.now }
-    ensures { (g : Game) → sets ≡ g.sets → Held player_section (player_field g) g.sets numbers.now → outcome (verdict_answered result) (out.new, tt) ≡ run (showing (suc player) gain base) (map (item moves.now) (sets_of g (player_of player))) (out.old, tt) }
+) -> Result<PairVerdict, Refusal>
+    requires { ShowAsked numbers.now sets moves.now }
+    ensures { (g : Game) → sets ≡ g.sets → Held player_section (player_field g) g.sets numbers.now → outcome (answered verdict_seen result) (out.new, tt) ≡ run (showing (player_number (as_player found.player)) found.gain base) (map (item moves.now) (sets_of g (as_player found.player))) (out.old, tt) }
 {
-    let count = strategy::set_count(numbers, sets, player);
-    let room = checks::has_room(count, out.len());
-    let Checked::Fine = room else {
-        return VerdictAnswer::Refused(checks::number(room));
-    };
-    strategy::put_strategy(numbers, sets, player, moves, out);
-    VerdictAnswer::Deviation {
-        player_number: player as u64 + 1,
-        gain,
-        base,
+    let count = strategy::set_count(numbers, sets, found.player);
+    checks::has_room(count, out.len())?;
+    strategy::put_strategy(numbers, sets, found.player, moves, out);
+    let shown = Shown {
+        player: found.player,
+        gain: found.gain,
         sets: count as u64,
-    }
+    };
+    Ok(PairVerdict {
+        base,
+        deviation: Some(shown),
+    })
 }
 
 // The verdict, with the moves of the strategy that is shown in the buffer; the second clause is demand 3.
-pub fn verdict(game: &[u8], plan: &[u8], moves: &mut [u64]) -> VerdictAnswer
-    ensures equation { outcome (verdict_answered result) (moves.new, tt) ≡ verdict_call game.now plan.now moves.old }
-    ensures promise { Demand3Met game.now plan.now moves.old (outcome (verdict_answered result) (moves.new, tt)) }
+pub fn verdict(game: &[u8], plan: &[u8], moves: &mut [u64]) -> Result<PairVerdict, Refusal>
+    ensures equation { outcome (answered verdict_seen result) (moves.new, tt) ≡ verdict_call game.now plan.now moves.old }
+    ensures promise { Demand3Met game.now plan.now moves.old (outcome (answered verdict_seen result) (moves.new, tt)) }
 {
     let mut numbers = [0u16; Section::NUMBERS];
     let mut payoffs = [0i16; Section::PAYOFFS];
     let mut moves1 = [0u16; NodeRecord::NODES];
     let mut moves2 = [0u16; NodeRecord::NODES];
-    let evaluated = evaluation::evaluate(
+    let Evaluated { pair, values } = evaluation::evaluate(
         game,
         plan,
         &mut numbers,
         &mut payoffs,
         &mut moves1,
         &mut moves2,
-    );
-    let PairEvaluated::Evaluated { pair, values } = evaluated else {
-        return VerdictAnswer::Refused(evaluation::refusal(evaluated));
-    };
-    let counts = pair.counts;
-    let sets = counts.sets;
+    )?;
+    let sets = pair.counts.sets;
     let base = base(pair);
-    let judged = judge(values, pair.denominators);
-    let Verdict::Deviation {
-        player_number,
-        gain,
-    } = judged
-    else {
-        return VerdictAnswer::Accepted { base };
+    let Some(found) = judge(values, pair.denominators) else {
+        return Ok(PairVerdict {
+            base,
+            deviation: None,
+        });
     };
-    if player_number == 1 {
-        return show(&numbers, sets, 0, gain, base, &moves1, moves);
+    match found.player {
+        Player::One => show(&numbers, sets, found, base, &moves1, moves),
+        Player::Two => show(&numbers, sets, found, base, &moves2, moves),
     }
-    show(&numbers, sets, 1, gain, base, &moves2, moves)
 }

@@ -23,7 +23,7 @@ room : (bytes : List ℕ) (at i : ℕ) → i < 64 → 2 * field bytes at i + 1 <
 room bytes at i l = omega (arith, field_fits bytes at i, pow_mono {i = i} {j = 63} (omega arith))
 
 pub loop-i-init : goal.loop-i-init
-loop-i-init c = (omega arith, none _ _)
+loop-i-init c = none _ _
 
 pub overflow_mul-value : goal.overflow_mul-value
 overflow_mul-value c =
@@ -44,4 +44,4 @@ pub returns : goal.returns
 returns c =
     let a = c.args in
     let all : c.loop-i.i ≡ a.width = omega arith in
-    omega (arith, field_fits a.bytes.now a.at a.width, rw all at c.loop-i.invariant.1)
+    omega (arith, field_fits a.bytes.now a.at a.width, rw all at c.loop-i.invariant)

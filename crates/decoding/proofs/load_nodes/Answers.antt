@@ -1,4 +1,4 @@
-use Prim.Native.Nat.{◌-◌, ◌<◌}
+use Prim.Native.Nat.{◌<◌}
 use mathlib.Core.Path.{◌≡◌, sym, ◌∙◌}
 use native.Mathlib.Omega.{arith}
 use Rattle.algebra.proofs.Tests.{false→not}
@@ -48,15 +48,15 @@ loop-n-preserved c =
     let v = turn (goal.at.loop-n-preserved c).In-loop-n in
     let w = small (goal.at.loop-n-preserved c).In-loop-n in
     let p = c.put_leaf-leaves.ensures in (
-      passed_more _ _ _ _ i.0 v (made (goal.at.loop-n-preserved c).After-well_formed-in-loop-n) c.if-well_formed.true,
+      passed_more _ _ _ _ i.0 v (made (goal.at.loop-n-preserved c).After-well_formed-in-loop-n) c.if-not-well_formed.false,
       nodes_more _ _ _ R i.1 (omega (arith, w)) c.put_node.ensures,
       payoffs_more _ _ _ R i.2 v (omega (arith, w)) p.0 p.1,
     )
 
-pub returns-else-well_formed : goal.returns-else-well_formed
+pub returns-then-not-well_formed : goal.returns-then-not-well_formed
 unfolding records_well_formed
-returns-else-well_formed c =
-    let f = passed_false _ _ _ _ (turn (goal.at.returns-else-well_formed c).In-loop-n) (made (goal.at.returns-else-well_formed c).After-well_formed-in-loop-n) c.if-well_formed.false in
+returns-then-not-well_formed c =
+    let f = passed_false _ _ _ _ (turn (goal.at.returns-then-not-well_formed c).In-loop-n) (made (goal.at.returns-then-not-well_formed c).After-well_formed-in-loop-n) c.if-not-well_formed.true in
     record {
       answer = nodes_refused _ _ f;
       apart = c.loop-n.invariant.1.apart;
@@ -81,21 +81,3 @@ loop-n-init c = (passed_none _ _, filled_none (omega (arith, c.requires.1)), pay
 
 pub read-node-requires : goal.read-node-requires
 read-node-requires c = (header_records _ _ c.requires.0, omega (arith, small c))
-
-pub overflow_add-n : goal.overflow_add-n
-overflow_add-n c = omega (arith, small (goal.at.overflow_add-n c).In-loop-n)
-
-pub loop-n-smaller : goal.loop-n-smaller
-loop-n-smaller c = omega (arith, c.loop-n-test.true)
-
-pub shape_of-numbers-else-well_formed : goal.shape_of-numbers-else-well_formed
-shape_of-numbers-else-well_formed c = c.loop-n.invariant.1.apart.long
-
-pub shape_of-payoffs-else-well_formed : goal.shape_of-payoffs-else-well_formed
-shape_of-payoffs-else-well_formed c = c.loop-n.invariant.2.long
-
-pub shape_of-numbers : goal.shape_of-numbers
-shape_of-numbers c = c.loop-n.invariant.1.apart.long
-
-pub shape_of-payoffs : goal.shape_of-payoffs
-shape_of-payoffs c = c.loop-n.invariant.2.long

@@ -1,4 +1,4 @@
-use Prim.Native.Nat.{◌-◌, ◌<◌}
+use Prim.Native.Nat.{◌<◌}
 use mathlib.Core.Path.{◌≡◌, sym, ap, ◌∙◌}
 use native.Mathlib.Omega.{arith}
 use Rattle.algebra.proofs.Tests.{false→not}
@@ -27,16 +27,16 @@ put_entry-requires c =
 pub loop-h-preserved : goal.loop-h-preserved
 loop-h-preserved c =
     let i = c.loop-h.invariant in (
-      passed_more _ _ _ _ i.0 (omega arith) (made (goal.at.loop-h-preserved c).After-is_move_count) c.if-is_move_count.true,
+      passed_more _ _ _ _ i.0 (omega arith) (made (goal.at.loop-h-preserved c).After-is_move_count) c.if-not-is_move_count.false,
       sets_more _ _ _ i.1 (omega (arith, small (goal.at.loop-h-preserved c).In-loop-h)) c.read-entry.ensures c.put_entry.ensures,
     )
 
-pub returns-else-is_move_count : goal.returns-else-is_move_count
+pub returns-then-not-is_move_count : goal.returns-then-not-is_move_count
 unfolding set_moves_in_range
-returns-else-is_move_count c = record {
-  answer = passed_not _ _ _ _ _ (omega arith) (made (goal.at.returns-else-is_move_count c).After-is_move_count) c.if-is_move_count.false;
+returns-then-not-is_move_count c = record {
+  answer = passed_not _ _ _ _ _ (omega arith) (made (goal.at.returns-then-not-is_move_count c).After-is_move_count) c.if-not-is_move_count.true;
   apart = c.loop-h.invariant.1.apart;
-  decoded = λ t. absurd (false→not _ (sym (passed_false _ _ _ _ (omega arith) (made (goal.at.returns-else-is_move_count c).After-is_move_count) c.if-is_move_count.false)) t);
+  decoded = λ t. absurd (false→not _ (sym (passed_false _ _ _ _ (omega arith) (made (goal.at.returns-then-not-is_move_count c).After-is_move_count) c.if-not-is_move_count.true)) t);
 }
 
 pub returns : goal.returns
@@ -54,15 +54,3 @@ loop-h-init c = (passed_none _ _, filled_none (omega (arith, c.requires.1)))
 
 pub read-entry-requires : goal.read-entry-requires
 read-entry-requires c = omega (arith, small c)
-
-pub overflow_add-h : goal.overflow_add-h
-overflow_add-h c = omega (arith, small (goal.at.overflow_add-h c).In-loop-h)
-
-pub loop-h-smaller : goal.loop-h-smaller
-loop-h-smaller c = omega arith
-
-pub shape_of-numbers-else-is_move_count : goal.shape_of-numbers-else-is_move_count
-shape_of-numbers-else-is_move_count c = c.loop-h.invariant.1.apart.long
-
-pub shape_of-numbers : goal.shape_of-numbers
-shape_of-numbers c = c.loop-h.invariant.1.apart.long

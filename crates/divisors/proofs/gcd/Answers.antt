@@ -1,6 +1,5 @@
-use mathlib.Core.Path.{◌≡◌, refl, sym, ap, ◌∙◌}
+use mathlib.Core.Path.{◌≡◌, sym, ap, ◌∙◌}
 use native.Mathlib.Omega.{arith}
-use native.Mathlib.Nat as NatL
 use Rattle.algebra.specs.Divisors.{gcd}
 use Rattle.algebra.proofs.Divisors.{gcd_step, gcd_none}
 use Rattle.divisors.proofs.gcd.Goals as goal
@@ -13,12 +12,3 @@ returns c =
     let left = c.loop-right.left in
     let none : c.loop-right.right ≡ 0 = omega arith in
     sym (gcd_none left) ∙ ap (gcd left) (sym none) ∙ c.loop-right.invariant
-
-pub loop-right-init : goal.loop-right-init
-loop-right-init c = refl
-
-pub nonzero_rem-rest : goal.nonzero_rem-rest
-nonzero_rem-rest c = omega arith
-
-pub loop-right-smaller : goal.loop-right-smaller
-loop-right-smaller c = NatL.mod-lt c.loop-right.left {m = c.loop-right.right} (omega arith)

@@ -7,23 +7,14 @@ use Rattle.model.specs.PlanChecks.{files}
 use Rattle.exported_sheets.proofs.Promises.{returned}
 use Rattle.exported_sheets.proofs.sheet_from_plan.Goals as goal
 
-pub returns-in-Written : goal.returns-in-Written
-returns-in-Written c =
+pub returns-in-Ok : goal.returns-in-Ok
+returns-in-Ok c =
     let a = c.args in
-    let m = returned weight_width largest_denominator a.size.now a.out.now (omega arith) (le_refl largest_denominator) (files a.game.now a.plan.now) c.in-Written.is c.sheet_from_plan-answer.ensures.equation refl refl in
+    let m = returned weight_width largest_denominator a.size.now a.out.now (omega arith) (le_refl largest_denominator) (files a.game.now a.plan.now) c.in-Ok.is c.sheet_from_plan.ensures.equation refl refl in
     record { equation = m.0; promise = m.1 }
 
-pub returns-in-Refused : goal.returns-in-Refused
-returns-in-Refused c =
+pub returns-in-Err : goal.returns-in-Err
+returns-in-Err c =
     let a = c.args in
-    let m = returned weight_width largest_denominator a.size.now a.out.now (omega arith) (le_refl largest_denominator) (files a.game.now a.plan.now) c.in-Refused.is c.sheet_from_plan-answer.ensures.equation refl refl in
+    let m = returned weight_width largest_denominator a.size.now a.out.now (omega arith) (le_refl largest_denominator) (files a.game.now a.plan.now) c.in-Err.is c.sheet_from_plan.ensures.equation c.number.ensures refl in
     record { equation = m.0; promise = m.1 }
-
-pub sheet_from_plan-answer-requires : goal.sheet_from_plan-answer-requires
-sheet_from_plan-answer-requires c = tt
-
-pub shape_of-out-in-Written : goal.shape_of-out-in-Written
-shape_of-out-in-Written c = c.sheet_from_plan-answer.auto.out
-
-pub shape_of-out-in-Refused : goal.shape_of-out-in-Refused
-shape_of-out-in-Refused c = c.sheet_from_plan-answer.auto.out

@@ -1,21 +1,12 @@
 -- The length goes to the reference; a refusal leaves it as it was.
 use mathlib.Core.Path.{refl}
-use Rattle.checks.specs.Answers.{write_answered}
+use Rattle.checks.specs.Answers.{answered}
 use Rattle.model.specs.Exported.{same}
 use Rattle.model.proofs.Exported.{exports}
 use Rattle.exported_writers.proofs.write_plan.Goals as goal
 
-pub returns-in-Written : goal.returns-in-Written
-returns-in-Written c = exports write_answered same _ c.write-answer.ensures c.in-Written.is refl refl
+pub returns-in-Ok : goal.returns-in-Ok
+returns-in-Ok c = exports (answered same) same _ c.write.ensures c.in-Ok.is refl refl
 
-pub returns-in-Refused : goal.returns-in-Refused
-returns-in-Refused c = exports write_answered same _ c.write-answer.ensures c.in-Refused.is refl refl
-
-pub write-answer-requires : goal.write-answer-requires
-write-answer-requires c = tt
-
-pub shape_of-out-in-Written : goal.shape_of-out-in-Written
-shape_of-out-in-Written c = c.write-answer.auto.out
-
-pub shape_of-out-in-Refused : goal.shape_of-out-in-Refused
-shape_of-out-in-Refused c = c.write-answer.auto.out
+pub returns-in-Err : goal.returns-in-Err
+returns-in-Err c = exports (answered same) same _ c.write.ensures c.in-Err.is c.number.ensures refl

@@ -1,31 +1,23 @@
 -- The limits of 16 bits, by the integer's sign.
-use Prim.Native.Nat.{◌*◌, ◌^◌}
-use mathlib.Core.Path.{◌≡◌, sym}
-use mathlib.Core.Bool.{true, false, false≢true}
-use native.Mathlib.Omega.{arith}
-use borrow.Author.Tests.{ltb-true, ltb-false, lt-ltb, le-ltb}
-use lib.Dec.{leb, ltb, leb→le, le→leb, ltb→lt, lt→ltb}
-use lib.IntN.{ℤ, pos, negsuc}
-use lib.Signed.{le_z, lt_z}
+use Rattle.std.proofs.Common.{ℕ, ◌*◌, ◌^◌, ℤ, pos, negsuc, ◌&&◌, ltb, leb, ◌≡◌, refl, arith}
+use mathlib.Core.Bool.{and-true}
+use lib.Signed.{le_z}
 use mir.Facts.{to_z-of_z}
-use Rattle.algebra.proofs.Tests.{bool_same}
+use Rattle.std.proofs.lemmas.Bool.Decides.{nat_tests}
 use Rattle.model.specs.Writing.{fits_signed_of}
 use Rattle.fitting.proofs.fits_signed.Goals as goal
 
--- below the least
-too_small : (z : ℤ) → lt_z z (negsuc 32767) ≡ true → false ≡ fits_signed_of 16 z
+half_lem : (n : ℕ) → ltb (2 * n) (2 ^ 16) ≡ leb n 32767
+half_lem n = grind (arith, nat_tests)
+
+-- the least, and the greatest
+in_range_lem : (z : ℤ) → fits_signed_of 16 z ≡ (le_z (negsuc 32767) z && le_z z (pos 32767))
 unfolding fits_signed_of
-too_small (pos n) e = absurd (false≢true e)
-too_small (negsuc n) e = sym (le-ltb (2 * n) (2 ^ 16) (omega (arith, ltb-true 32767 n e)))
+in_range_lem (pos n) = half_lem n
+in_range_lem (negsuc n) = rw and-true (half_lem n)
 
--- at least the least
-large_enough : (z : ℤ) → lt_z z (negsuc 32767) ≡ false → le_z z (pos 32767) ≡ fits_signed_of 16 z
-unfolding fits_signed_of
-large_enough (pos n) e = bool_same (leb n 32767) (ltb (2 * n) (2 ^ 16)) (λ t. lt→ltb (2 * n) (2 ^ 16) (omega (arith, leb→le n 32767 t))) (λ t. le→leb n 32767 (omega (arith, ltb→lt (2 * n) (2 ^ 16) t)))
-large_enough (negsuc n) e = sym (lt-ltb (2 * n) (2 ^ 16) (omega (arith, ltb-false 32767 n e)))
+pub returns-then-x-ge-LEAST : goal.returns-then-x-ge-LEAST
+returns-then-x-ge-LEAST c = rw (to_z-of_z c.ranges.x, in_range_lem c.args.x, rw (to_z-of_z c.ranges.x) at c.if-x-ge-LEAST.true) refl
 
-pub returns-then-x-lt-LEAST : goal.returns-then-x-lt-LEAST
-returns-then-x-lt-LEAST c = too_small c.args.x (rw (to_z-of_z c.ranges.x) at c.if-x-lt-LEAST.true)
-
-pub returns-else-x-lt-LEAST : goal.returns-else-x-lt-LEAST
-returns-else-x-lt-LEAST c = rw (to_z-of_z c.ranges.x) (large_enough c.args.x (rw (to_z-of_z c.ranges.x) at c.if-x-lt-LEAST.false))
+pub returns-else-x-ge-LEAST : goal.returns-else-x-ge-LEAST
+returns-else-x-ge-LEAST c = rw (to_z-of_z c.ranges.x, in_range_lem c.args.x, rw (to_z-of_z c.ranges.x) at c.if-x-ge-LEAST.false) refl

@@ -9,13 +9,13 @@ use Rattle.form.proofs.evaluate.Goals as goal
 pub best_response-best1-requires : goal.best_response-best1-requires
 best_response-best1-requires c =
     let Q = c.requires.0 in
-    (record { game = Q.game; loaded = Q.loaded; is_player = omega arith; weights = Q.weights.weights2 }, omega arith, omega arith, c.requires.1)
+    (record { game = Q.game; loaded = Q.loaded; weights = Q.weights.weights2 }, omega arith, omega arith, c.requires.1)
 
 pub best_response-best2-requires : goal.best_response-best2-requires
 best_response-best2-requires c =
     let Q = c.requires.0 in
     let kept = c.best_response-best1.auto in
-    (record { game = Q.game; loaded = Q.loaded; is_player = omega arith; weights = Q.weights.weights1 }, omega (arith, kept.sums), omega (arith, kept.worths), c.requires.2)
+    (record { game = Q.game; loaded = Q.loaded; weights = Q.weights.weights1 }, omega (arith, kept.sums), omega (arith, kept.worths), c.requires.2)
 
 pub returns : goal.returns
 returns c g L W =
@@ -33,12 +33,6 @@ returns c g L W =
       given1.1,
       given2.1,
     )
-
-pub value-value1-requires : goal.value-value1-requires
-value-value1-requires c = (c.requires.0, omega arith)
-
-pub value-value2-requires : goal.value-value2-requires
-value-value2-requires c = (c.requires.0, omega arith)
 
 pub slice_bounds-best_response-end : goal.slice_bounds-best_response-end
 slice_bounds-best_response-end c = refl

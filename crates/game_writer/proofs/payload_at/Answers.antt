@@ -1,26 +1,21 @@
--- Each number is its list's.
-use borrow.Author.Rules.{sfits_of}
-use mir.Syntax.{w16}
-use mir.Facts.{to_z-of_z}
+-- Of each kind its fields.
+use borrow.Author.Rules.{rules}
+use mathlib.Core.Path.{sym, ◌∙◌}
+use Rattle.game_writer.specs.Nodes.{payload_by}
 use Rattle.game_writer.proofs.payload_at.Goals as goal
 
-pub narrow-requires : goal.narrow-requires
-narrow-requires c = rw (to_z-of_z (sfits_of c.narrow-arg-1.given)) c.requires.4
+pub returns-in-Leaf : goal.returns-in-Leaf
+unfolding payload_by
+returns-in-Leaf c = rw (sym c.from.ensures ∙ c.in-Leaf.is) (search rules)
 
-pub narrow-requires-2 : goal.narrow-requires-2
-narrow-requires-2 c = rw (to_z-of_z (sfits_of c.narrow-arg-2-1.given)) c.requires.5
+pub returns-in-Decision : goal.returns-in-Decision
+unfolding payload_by
+returns-in-Decision c = rw (sym c.from.ensures ∙ c.in-Decision.is, c.index.ensures)
 
-pub returns : goal.returns
-returns c =
-    let one = c.narrow in
-    let two = c.narrow-2 in
-    rw (
-      to_z-of_z {w = w16} {z = one.result} (record { sfits = one.type_inv }),
-      to_z-of_z {w = w16} {z = two.result} (record { sfits = two.type_inv }),
-      one.ensures,
-      two.ensures,
-      to_z-of_z (sfits_of c.narrow-arg-1.given),
-      to_z-of_z (sfits_of c.narrow-arg-2-1.given),
-      c.index.ensures,
-      c.index-2.ensures,
-    )
+pub returns-in-Chance : goal.returns-in-Chance
+unfolding payload_by
+returns-in-Chance c = rw (sym c.from.ensures ∙ c.in-Chance.is, c.index-in-Chance.ensures)
+
+pub returns-in-Unknown : goal.returns-in-Unknown
+unfolding payload_by
+returns-in-Unknown c = rw (sym c.from.ensures ∙ c.in-Unknown.is)

@@ -1,22 +1,17 @@
-use mathlib.Core.Path.{◌≡◌, refl}
-use native.Mathlib.Omega.{arith}
-use Rattle.algebra.proofs.Sections.{held_none, held_more, apart_none, apart_set}
+-- The places of the section have the value, and no other has changed.
+use Prim.Native.Nat.{ℕ, ◌-◌, ◌≤◌, ◌<◌}
+use mathlib.Core.Path.{◌≡◌}
+use mathlib.Core.List.{List}
+use borrow.Rule.Slice.PartMut.{put_mid}
+use lib.ListN.{length, get_or}
+use Rattle.std.proofs.Common.{rules}
+use Rattle.std.proofs.lemmas.List.{places}
 use Rattle.loaded.proofs.fill.Goals as goal
 
-pub loop-i-init : goal.loop-i-init
-loop-i-init c = (omega arith, held_none _ (omega arith), apart_none)
-
-pub put-requires : goal.put-requires
-put-requires c = (omega (arith, c.loop-i.invariant.2.long), c.requires.1)
-
-pub loop-i-preserved : goal.loop-i-preserved
-loop-i-preserved c =
-    let inv = c.loop-i.invariant in
-    let put = c.put.ensures in
-    (omega arith, held_more _ inv.1 (omega (arith, inv.2.long)) put refl, apart_set _ _ inv.2 put (omega arith) (omega arith))
+-- a place outside the part that is written
+kept : (from end : ℕ) (before part : List ℕ) → from ≤ end → end ≤ length before → length part ≡ end - from → (d j : ℕ) → (from ≤ j → j < end → ⊥) → get_or (put_mid from (end - from) before part) j d ≡ get_or before j d
+kept from end before part ordered inside long d j out = search (rules, places, out)
 
 pub returns : goal.returns
 returns c =
-    let inv = c.loop-i.invariant in
-    let e : c.loop-i.i ≡ c.args.count = omega arith in
-    (rw e at inv.1, inv.2)
+    (record { long = search (rules, places); at = λ d i v. search (rules, places) }, record { long = search (rules, places); same = λ d j out. kept _ _ _ _ (search rules) c.requires.0 (search (rules, places)) d j out })

@@ -1,23 +1,20 @@
--- The kind decides, and payoffs that fit are read back as they are.
+-- Payoffs that fit are given as they were read.
 use native.Mathlib.Omega.{arith}
-use mathlib.Core.Path.{ap}
+use mathlib.Core.Path.{◌≡◌, ◌∙◌}
 use mir.Syntax.{w16}
 use mir.Facts.{to_z-of_z}
-use Rattle.model.specs.Call.{given}
-use Rattle.lookups.specs.Records.{place_read_of}
-use Rattle.lookups.proofs.Answers.{first_kind, last_kind}
+use Rattle.model.specs.Calls.NodeRecord.{leaf}
+use Rattle.records.specs.Records.{kind_number, kind_in, payoff1_in, payoff2_in}
+use Rattle.lookups.specs.Answers.{place_seen}
+use Rattle.lookups.specs.Records.{record_read}
+use Rattle.lookups.proofs.Answers.{leaf_given}
 use Rattle.lookups.proofs.node_by_kind.Goals as goal
 
-pub returns-then-node-eq-LEAF : goal.returns-then-node-eq-LEAF
-returns-then-node-eq-LEAF c =
+pub returns-in-Leaf : goal.returns-in-Leaf
+unfolding kind_number kind_in payoff1_in payoff2_in
+returns-in-Leaf c =
     let n = c.args.node in
-    let p = n.payload in
-    let one = to_z-of_z {w = w16} {z = p.payoff1} (record { sfits = omega arith }) in
-    let two = to_z-of_z {w = w16} {z = p.payoff2} (record { sfits = omega arith }) in
-    ap given (first_kind n.kind (place_read_of n) _ _ c.if-node-eq-LEAF.true one two)
-
-pub returns-then-node-eq-DECISION : goal.returns-then-node-eq-DECISION
-returns-then-node-eq-DECISION c = rw c.if-node-eq-DECISION.true
-
-pub returns : goal.returns
-returns c = ap given (last_kind _ _ _ _ c.if-node-eq-LEAF.false c.if-node-eq-DECISION.false)
+    let l = c.in-Leaf in
+    let at = place_seen (record { parent = n.parent; place = n.place; weight = n.weight }) in
+    let read : leaf at l.payoff1 l.payoff2 ≡ record_read n = rw l.is in
+    leaf_given at (to_z-of_z {w = w16} {z = l.payoff1} (record { sfits = omega arith })) (to_z-of_z {w = w16} {z = l.payoff2} (record { sfits = omega arith })) ∙ read

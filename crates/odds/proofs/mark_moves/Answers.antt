@@ -1,4 +1,4 @@
-use Prim.Native.Nat.{◌-◌, ◌<◌}
+use Prim.Native.Nat.{◌<◌}
 use mathlib.Core.Bool.{cond}
 use mathlib.Core.Path.{◌≡◌, ap, ◌∙◌}
 use native.Mathlib.Omega.{arith}
@@ -18,22 +18,16 @@ loop-m-preserved c =
     let put = c.put.ensures in
     let a = c.args in
     let is = c.mark-marked.ensures ∙ ap (λ k. cond (ltb 0 k) a.before 0) c.number.ensures.0 in
-    (omega arith, held_more _ inv.1 (omega (arith, inv.2.long)) put is, apart_set _ _ inv.2 put (omega arith) (omega arith))
+    (held_more _ inv.0 (omega (arith, inv.1.long)) put is, apart_set _ _ inv.1 put (omega arith) (omega arith))
 
 pub returns : goal.returns
 returns c =
     let inv = c.loop-m.invariant in
-    let e : c.loop-m.m ≡ c.args.moves = omega arith in
-    (rw e at inv.1, inv.2)
+    let e : c.loop-m.m ≡ c.args.set.moves = omega arith in
+    (rw e at inv.0, inv.1)
 
 pub loop-m-init : goal.loop-m-init
-loop-m-init c = (omega arith, held_none _ (omega (arith, c.requires.1)), apart_none)
-
-pub number-requires : goal.number-requires
-number-requires c = omega (arith, c.requires.0)
-
-pub mark-marked-requires : goal.mark-marked-requires
-mark-marked-requires c = tt
+loop-m-init c = (held_none _ (omega (arith, c.requires.1)), apart_none)
 
 pub put-requires : goal.put-requires
-put-requires c = (omega (arith, c.loop-m.invariant.2.long, c.requires.1), small (goal.at.put-requires c).After-mark-marked)
+put-requires c = (omega (arith, c.loop-m.invariant.1.long, c.requires.1), small (goal.at.put-requires c).After-mark-marked)

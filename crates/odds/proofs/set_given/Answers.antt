@@ -7,7 +7,7 @@ returns-then-before-eq0 c =
     let put = c.mark_moves.ensures in
     set_unmarked c.item-before.ensures.0 put.0 put.1 c.if-before-eq0.true
 
-pub returns : goal.returns
-returns c =
+pub returns-else-before-eq0 : goal.returns-else-before-eq0
+returns-else-before-eq0 c =
     let put = c.mark_moves.ensures in
     set_marked c.item-before.ensures.0 put.0 put.1 c.if-before-eq0.false c.moves_total.ensures

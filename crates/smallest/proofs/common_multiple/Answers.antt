@@ -10,9 +10,6 @@ returns-then-multiple-limit c = let a = c.args in multiple_in a.limit a.a a.b c.
 pub returns-else-multiple-limit : goal.returns-else-multiple-limit
 returns-else-multiple-limit c = let a = c.args in multiple_above a.limit a.a a.b c.gcd.ensures (omega (arith, c.if-multiple-limit.false))
 
-pub gcd-requires : goal.gcd-requires
-gcd-requires c = tt
-
 pub nonzero_div-multiple : goal.nonzero_div-multiple
 nonzero_div-multiple c = let a = c.args in rw c.gcd.ensures (gcd_positive_left a.a a.b c.requires.0)
 

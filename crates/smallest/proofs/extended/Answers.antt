@@ -22,8 +22,5 @@ returns-then-numerator-eq0 c = let a = c.args in times_none a.before a.odds a.to
 pub overflow_mul-denominator : goal.overflow_mul-denominator
 overflow_mul-denominator c = record { fits = omega (arith, denominator_small c.requires.0 c.requires.2) }
 
-pub gcd-divisor-requires : goal.gcd-divisor-requires
-gcd-divisor-requires c = tt
-
 pub nonzero_div-result-2 : goal.nonzero_div-result-2
 nonzero_div-result-2 c = nonzero_div-result c

@@ -1,73 +1,75 @@
 -- The set that stands there is read; where it is the player's, its probabilities are found after the one that leads to it.
-use Prim.Native.Nat.{◌<◌}
 use native.Mathlib.Omega.{arith}
-use borrow.Author.Rules.{rules}
 use lib.Dec.{T}
-use Rattle.model.specs.Game.{player_of, owns}
+use mathlib.Core.Path.{◌≡◌}
+use Rattle.algebra.specs.Arrays.{item}
+use Rattle.model.specs.Game.{owns}
 use Rattle.model.specs.Sequences.{sequence_count}
-use Rattle.loaded.proofs.SetsRead.{set_place, sequences_read, next_read, next_inside, next_his, next_not_his, Stand, set_stands}
+use Rattle.loaded.specs.Players.{as_player}
+use Rattle.loaded.specs.Sets.{set_order}
+use Rattle.loaded.specs.SetSequences.{set_sequences_of}
+use Rattle.loaded.proofs.SetOrder.{order_set}
+use Rattle.loaded.proofs.SetsRead.{Stand, set_stands}
+use Rattle.sheets.proofs.OwnSets.{own_set_some, own_set_none}
 use Rattle.smallest.proofs.Lowest.{total_small}
 use Rattle.smallest.proofs.Orders.{lead_proper, next_own, next_other}
 use Rattle.smallest.proofs.next_multiple.Goals as goal
-use Rattle.smallest.proofs.next_multiple.Goals.{After-number-h, After-set_sequences-set, Then-number-player}
+use Rattle.smallest.proofs.next_multiple.Goals.{In-Some}
 
--- the set is one of the game's
-inside : (c : After-number-h) → c.number-h.result < c.requires.game.sets
-inside c = let asked = c.requires in next_inside asked.loaded asked.inside c.number-h.ensures.0
+pub own_set-requires : goal.own_set-requires
+own_set-requires c = c.requires.place
 
--- it is the player's
-mine : (c : Then-number-player) → T (owns c.requires.game (player_of c.args.player) c.number-h.result)
-mine c =
-    next_his c.requires.loaded c.requires.inside c.number-h.ensures.0 c.args.player c.requires.known c.number.ensures.0 c.if-number-player.true
+-- it is the player's set that stands there
+own : (c : In-Some) → let g = c.requires.place.game in let h = item (set_order g) c.args.i in T (owns g (as_player c.args.player) h) × (c.in-Some.set ≡ set_sequences_of g h)
+own c = let A = c.requires.place in own_set_some A.game (as_player c.args.player) c.args.i (c.own_set.ensures A.game A.counts A.loaded A.inside) c.in-Some.is
 
 -- so its sequences stand among his
-stands : (c : After-set_sequences-set) → Stand (sequence_count c.requires.game (player_of c.args.player)) c.set_sequences-set.result
+stands : (c : In-Some) → Stand (sequence_count c.requires.place.game (as_player c.args.player)) c.in-Some.set
 stands c =
-    let inside : c.number-h.result < c.requires.game.sets = let asked = c.requires in next_inside asked.loaded asked.inside c.number-h.ensures.0 in
-    let mine : T (owns c.requires.game (player_of c.args.player) c.number-h.result) = next_his c.requires.loaded c.requires.inside c.number-h.ensures.0 c.args.player c.requires.known c.number.ensures.0 c.if-number-player.true in
-    let l = inside in
-    set_stands c.requires.loaded.rules (player_of c.args.player) l (mine) (sequences_read c.requires.loaded l c.set_sequences-set.ensures)
+    let A = c.requires.place in
+    let o = own c in
+    set_stands A.loaded.rules (as_player c.args.player) (order_set A.game A.loaded.rules c.args.i A.inside) o.0 o.1
+
+pub moves_total-total-requires : goal.moves_total-total-requires
+moves_total-total-requires c = let at = stands c in (at.few, omega (arith, at.block, c.requires.odds_are.long))
+
+pub offset_bounds-numerators-set : goal.offset_bounds-numerators-set
+offset_bounds-numerators-set c = omega (arith, (stands (goal.at.offset_bounds-numerators-set c).In-Some).below, c.requires.probabilities.numerators_are.long)
+
+pub bounds-numerators-set : goal.bounds-numerators-set
+bounds-numerators-set c = omega (arith, (stands (goal.at.bounds-numerators-set c).In-Some).below, c.requires.probabilities.numerators_are.long)
+
+pub offset_bounds-denominators-set : goal.offset_bounds-denominators-set
+offset_bounds-denominators-set c = omega (arith, (stands (goal.at.offset_bounds-denominators-set c).In-Some).below, c.requires.probabilities.denominators_are.long)
+
+pub bounds-denominators-set : goal.bounds-denominators-set
+bounds-denominators-set c = omega (arith, (stands (goal.at.bounds-denominators-set c).In-Some).below, c.requires.probabilities.denominators_are.long)
 
 -- what is asked at the set
 pub fill_set-requires : goal.fill_set-requires
 fill_set-requires c =
-    let at = stands (goal.at.fill_set-requires c).After-set_sequences-set in
-    let K = c.requires.probabilities in
+    let A = c.requires in
+    let set = c.in-Some.set in
+    let o = own (goal.at.fill_set-requires c).In-Some in
+    let at = stands (goal.at.fill_set-requires c).In-Some in
     let few = c.moves_total-total.ensures in
     record {
-      in_odds = omega (arith, at.block, c.requires.odds_are.long);
-      in_numerators = omega (arith, at.block, K.numerators_are.long);
-      in_denominators = omega (arith, at.block, K.denominators_are.long);
-      proper = lead_proper c.requires.loaded.rules c.requires.odds (player_of c.args.player) c.requires.inside K (next_read c.requires.loaded c.requires.inside c.number-h.ensures.0) (mine (goal.at.fill_set-requires c).Then-number-player) (sequences_read c.requires.loaded (inside (goal.at.fill_set-requires c).After-number-h) c.set_sequences-set.ensures) c.item.ensures.0 c.item-then-number-player.ensures.0 c.item-then-number-player.ensures.1;
+      in_odds = omega (arith, at.block, A.odds_are.long);
+      in_numerators = omega (arith, at.block, A.probabilities.numerators_are.long);
+      in_denominators = omega (arith, at.block, A.probabilities.denominators_are.long);
+      proper = lead_proper A.place.loaded.rules A.odds (as_player c.args.player) A.place.inside A.probabilities o.0 o.1 c.from.ensures c.from-2.ensures (omega (arith, c.from-2.ensures));
       total_is = few;
-      total_small = total_small c.args.x.now c.set_sequences-set.result.start c.set_sequences-set.result.moves at.few (λ k. omega (arith, c.shared_slice_known-2-1.given k)) few;
-      within = c.requires.within;
+      total_small = total_small c.args.x.now set.start set.moves at.few (λ k. omega (arith, c.type_inv.x k)) few;
+      within = A.within;
     }
-
-pub returns-then-number-player : goal.returns-then-number-player
-returns-then-number-player c g n given L l X K =
-    let read = c.number-h.ensures.0 in
-    next_own L.rules given (player_of c.args.player) l K X c.requires.within (next_read L l read)
-    (next_his L l read c.args.player c.requires.known c.number.ensures.0 c.if-number-player.true)
-    (sequences_read L (next_inside L l read) c.set_sequences-set.ensures)
-    (rw (c.item.ensures.0, c.item-then-number-player.ensures.0)) c.moves_total-total.ensures c.fill_set.ensures
 
 pub returns : goal.returns
 returns c g n given L l X K =
-    let read = c.number-h.ensures.0 in
-    next_other L.rules given (player_of c.args.player) l K c.requires.within (next_read L l read) (next_not_his L l read c.args.player c.requires.known c.number.ensures.0 c.if-number-player.false)
+    let p = as_player c.args.player in
+    let o = own_set_some g p c.args.i (c.own_set.ensures g n L l) c.in-Some.is in
+    next_own L.rules given p l K X o.0 o.1 (rw (c.from.ensures, c.from-2.ensures)) c.moves_total-total.ensures c.fill_set.ensures
 
-pub number-requires : goal.number-requires
-number-requires c = omega (arith, inside c, c.requires.loaded.decoded.sets_decoded.players.long)
-
-pub set_sequences-set-requires : goal.set_sequences-set-requires
-set_sequences-set-requires c = set_place c.requires.loaded (inside (goal.at.set_sequences-set-requires c).After-number-h)
-
-pub moves_total-total-requires : goal.moves_total-total-requires
-moves_total-total-requires c = ((stands c).few, omega (arith, (stands c).block, c.requires.odds_are.long))
-
-pub item-requires : goal.item-requires
-item-requires c = omega (arith, (stands (goal.at.item-requires c).After-set_sequences-set).below, c.requires.probabilities.numerators_are.long)
-
-pub item-requires-then-number-player : goal.item-requires-then-number-player
-item-requires-then-number-player c = omega (arith, (stands (goal.at.item-requires-then-number-player c).After-set_sequences-set).below, c.requires.probabilities.denominators_are.long)
+pub returns-in_default : goal.returns-in_default
+returns-in_default c g n given L l X K =
+    let p = as_player c.args.player in
+    next_other L.rules given p l K c.requires.within (own_set_none g p c.args.i (c.own_set.ensures g n L l) c.in_default.is)

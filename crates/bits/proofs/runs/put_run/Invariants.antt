@@ -1,5 +1,5 @@
 -- The invariant: the first `j` bytes of the run are put, and the other bytes are as they were.
-use Prim.Native.Nat.{◌+◌, ◌*◌, ◌-◌, ◌/◌}
+use Prim.Native.Nat.{◌+◌, ◌*◌, ◌/◌}
 use lib.ListN.{length}
 use Rattle.algebra.proofs.Arrays.{Placing}
 use Rattle.bits.proofs.Bytes.{run_byte}
@@ -7,6 +7,3 @@ use Rattle.bits.proofs.runs.put_run.Given as goal
 
 abbrev pub invariant-loop-j : goal.invariant-loop-j
 invariant-loop-j l = Placing l.from (run_byte l.width l.numbers) ((l.width * length l.numbers + 7) / 8) l.initial.out l.j l.out
-
-abbrev pub decreases-loop-j : goal.decreases-loop-j
-decreases-loop-j l = l.count - l.j

@@ -2,7 +2,8 @@
 use mathlib.Core.Path.{ap, ◌∙◌}
 use native.Mathlib.Omega.{arith}
 use Rattle.model.proofs.Budget.{game_limits}
-use Rattle.checks.specs.Checked.{checked_of}
+use Rattle.checks.specs.Answers.{checked_of}
+use Rattle.checks.specs.declared.Refusal.TheVariants.{WrongLength}
 use Rattle.records.proofs.Widths.{few_sets}
 use Rattle.records.proofs.Headers.{header_nodes, header_sets}
 use Rattle.game.proofs.Headers.{length_right}
@@ -15,4 +16,4 @@ file_bytes-requires c =
     (omega (arith, header_nodes _ _ header, (game_limits bytes).nodes), omega (arith, header_sets _ _ header, few_sets bytes))
 
 pub returns : goal.returns
-returns c = c.check.ensures ∙ rw c.file_bytes.ensures (ap (checked_of 4) (length_right _ _ c.read-header.ensures))
+returns c = c.check.ensures ∙ rw c.file_bytes.ensures (ap (checked_of WrongLength) (length_right _ _ c.read-header.ensures))

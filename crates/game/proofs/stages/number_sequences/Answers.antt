@@ -23,14 +23,14 @@ pub own_numbers-requires : goal.own_numbers-requires
 own_numbers-requires c =
     let p = c.requires in
     let f = c.first_sequences-counts.ensures in
-    (p.0, p.1, omega arith, p.3, stored_first p.4 p.3.rooted f.1 (f.0 p.0 p.2 p.4).1)
+    (p.0, p.1, p.3, stored_first p.4 p.3.rooted f.1 (f.0 p.0 p.2 p.4).1)
 
 pub own_numbers-requires-2 : goal.own_numbers-requires-2
 own_numbers-requires-2 c =
     let p = c.requires in
     let f = c.first_sequences-counts.ensures in
     let i = c.own_numbers.ensures in
-    (p.0, p.1, omega arith, p.3, stored_second (stored_first p.4 p.3.rooted f.1 (f.0 p.0 p.2 p.4).1) i.1)
+    (p.0, p.1, p.3, stored_second (stored_first p.4 p.3.rooted f.1 (f.0 p.0 p.2 p.4).1) i.1)
 
 pub first_sequences-counts-requires : goal.first_sequences-counts-requires
 first_sequences-counts-requires c = let p = c.requires in (p.0, p.2, p.4, p.3)

@@ -21,29 +21,29 @@ fill-requires-2 c =
     let N = some.numbered in
     (omega (arith, some.has.2, sequences_below N two, N.decoded.room, c.fill.ensures.1.long), omega (arith, some.has.0, N.decoded.few_sets))
 
-pub loop-left-init : goal.loop-left-init
-loop-left-init c =
+pub loop-h-init : goal.loop-h-init
+loop-h-init c =
     let second = c.fill-2.ensures in
-    (omega arith, apart_none, λ g e a b N. chains_none g _ _ _ e a b c.fill.ensures.0 second.0 second.1 N)
+    (apart_none, λ g e a b N. chains_none g _ _ _ e a b c.fill.ensures.0 second.0 second.1 N)
 
 pub link-requires : goal.link-requires
 link-requires c =
     let some = c.requires in
-    let inv = c.loop-left.invariant in
+    let inv = c.loop-h.invariant in
     let emptied = heads_filled some.numbered some.has.1 some.has.2 c.fill.ensures.1 c.fill-2.ensures.1 in
-    record { game = some.game; has = omega (arith, some.has.0); numbered = numbered_apart (numbered_apart some.numbered emptied (omega arith)) inv.1 (omega arith) }
+    record { game = some.game; has = omega (arith, some.has.0); numbered = numbered_apart (numbered_apart some.numbered emptied (omega arith)) inv.0 (omega arith) }
 
-pub loop-left-preserved : goal.loop-left-preserved
-loop-left-preserved c =
-    let inv = c.loop-left.invariant in
+pub loop-h-preserved : goal.loop-h-preserved
+loop-h-preserved c =
+    let inv = c.loop-h.invariant in
     let made = c.link.ensures in
-    let left = c.loop-left.left in
+    let left = c.loop-h.h in
     let e : left ≡ left - 1 + 1 = omega arith in
-    (omega arith, apart_twice (head_section_of one) numbers_room inv.1 made.0 (omega arith) (omega arith) (omega arith) (omega arith), λ g s a b N. made.1 g (omega arith) (numbered_apart N inv.1 (omega arith)) (subst (λ (k : ℕ). ChainsFrom g k c.loop-left.numbers) e (inv.2 g s a b N)))
+    (apart_twice (head_section_of one) numbers_room inv.0 made.0 (omega arith) (omega arith) (omega arith) (omega arith), λ g s a b N. made.1 g (omega arith) (numbered_apart N inv.0 (omega arith)) (subst (λ (k : ℕ). ChainsFrom g k c.loop-h.numbers) e (inv.1 g s a b N)))
 
 pub returns : goal.returns
 returns c =
     let some = c.requires in
-    let inv = c.loop-left.invariant in
+    let inv = c.loop-h.invariant in
     let emptied = heads_filled some.numbered some.has.1 some.has.2 c.fill.ensures.1 c.fill-2.ensures.1 in
-    (apart_twice (head_section_of one) numbers_room emptied inv.1 (omega arith) (omega arith) (omega arith) (omega arith), λ g s a b N. let M = numbered_apart N emptied (omega arith) in chains_all g _ (inv.2 g s a b M) (omega arith) M inv.1.long)
+    (apart_twice (head_section_of one) numbers_room emptied inv.0 (omega arith) (omega arith) (omega arith) (omega arith), λ g s a b N. let M = numbered_apart N emptied (omega arith) in chains_all g _ (inv.1 g s a b M) (omega arith) M inv.0.long)

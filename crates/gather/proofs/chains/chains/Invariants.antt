@@ -1,5 +1,4 @@
--- The invariant: the chains of the sets from `left` on are made.
-use Prim.Native.Nat.{◌-◌, ◌≤◌}
+-- The invariant: the chains of the sets from `h` on are made.
 use mathlib.Core.Path.{◌≡◌}
 use Rattle.algebra.specs.Sections.{Apart}
 use Rattle.model.specs.Game.{Game, one, two}
@@ -9,8 +8,5 @@ use Rattle.gather.specs.Numbered.{Numbered}
 use Rattle.gather.specs.Gathered.{ChainsFrom}
 use Rattle.gather.proofs.chains.chains.Given as goal
 
-abbrev pub invariant-loop-left : goal.invariant-loop-left
-invariant-loop-left l = (l.left ≤ l.sets) × Apart (head_section_of one) numbers_room l.initial.numbers l.numbers × ((g : Game) → l.sets ≡ g.sets → l.sequences1 ≡ sequence_count g one → l.sequences2 ≡ sequence_count g two → Numbered g l.initial.numbers → ChainsFrom g l.left l.numbers)
-
-abbrev pub decreases-loop-left : goal.decreases-loop-left
-decreases-loop-left l = l.left
+abbrev pub invariant-loop-h : goal.invariant-loop-h
+invariant-loop-h l = Apart (head_section_of one) numbers_room l.initial.numbers l.numbers × ((g : Game) → l.sets ≡ g.sets → l.sequences1 ≡ sequence_count g one → l.sequences2 ≡ sequence_count g two → Numbered g l.initial.numbers → ChainsFrom g l.h l.numbers)

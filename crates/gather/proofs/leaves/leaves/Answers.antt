@@ -1,4 +1,3 @@
-use Prim.Native.Nat.{◌-◌}
 use native.Mathlib.Omega.{arith}
 use Rattle.gather.proofs.GatheringLaws.{gathering_none, gathering_more}
 use Rattle.gather.proofs.LeafLaws.{leaves_none, leaves_all}

@@ -1,5 +1,4 @@
 -- The invariant: the leaves below node `n` stand in their sections.
-use Prim.Native.Nat.{◌-◌}
 use Rattle.model.specs.Game.{one}
 use Rattle.loaded.specs.Sections.{leaf_section, head_section_of}
 use Rattle.gather.specs.Gathered.{LeavesBelow}
@@ -8,6 +7,3 @@ use Rattle.gather.proofs.leaves.leaves.Given as goal
 
 abbrev pub invariant-loop-n : goal.invariant-loop-n
 invariant-loop-n l = Gathering (leaf_section one) (head_section_of one) LeavesBelow l.nodes l.n l.count l.initial.numbers l.numbers
-
-abbrev pub decreases-loop-n : goal.decreases-loop-n
-decreases-loop-n l = l.nodes - l.n

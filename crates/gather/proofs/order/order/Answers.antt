@@ -1,4 +1,3 @@
-use Prim.Native.Nat.{◌-◌}
 use native.Mathlib.Omega.{arith}
 use Rattle.gather.proofs.Numbered.{numbered_apart}
 use Rattle.gather.proofs.GatheringLaws.{gathering_none, gathering_more}

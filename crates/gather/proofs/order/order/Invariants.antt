@@ -1,5 +1,4 @@
 -- The invariant: the sets that begin below node `n` stand in order.
-use Prim.Native.Nat.{◌-◌}
 use Rattle.model.specs.Game.{one}
 use Rattle.loaded.specs.Sections.{order_section, leaf_section}
 use Rattle.gather.specs.Gathered.{OrderBelow}
@@ -8,6 +7,3 @@ use Rattle.gather.proofs.order.order.Given as goal
 
 abbrev pub invariant-loop-n : goal.invariant-loop-n
 invariant-loop-n l = Gathering order_section (leaf_section one) OrderBelow l.nodes l.n l.count l.initial.numbers l.numbers
-
-abbrev pub decreases-loop-n : goal.decreases-loop-n
-decreases-loop-n l = l.nodes - l.n

@@ -1,32 +1,16 @@
-use Prim.Native.Nat.{◌-◌}
+-- What is counted is the player's sets.
 use mathlib.Core.Path.{ap, ◌∙◌}
 use native.Mathlib.Omega.{arith}
 use lib.ListN.{length}
-use Rattle.algebra.proofs.Filters.{gathered_few, count_none, count_more, count_all}
-use Rattle.judgement.specs.Strategy.{is_own, own_alone}
-use Rattle.judgement.proofs.OwnSets.{sets_are_own}
+use Rattle.std.proofs.Common.{rules, tests}
+use Rattle.std.proofs.lemmas.Iterator.{YieldsList-from_range}
+use Rattle.std.proofs.lemmas.Iterator.Consumers.{count_from_yields_List, YieldsList-from_filter}
+use Rattle.loaded.specs.Players.{as_player}
+use Rattle.loaded.proofs.Owners.{same_read}
+use Rattle.judgement.specs.Strategy.{is_own}
+use Rattle.judgement.proofs.OwnSets.{sets_kept}
 use Rattle.judgement.proofs.strategy.set_count.Goals as goal
-
-pub count_set-count-requires : goal.count_set-count-requires
-count_set-count-requires c =
-    let few = gathered_few (is_own c.args.numbers.now c.args.player) c.loop-h.h in
-    (omega (arith, c.requires.0), omega (arith, c.requires.0, few, c.loop-h.invariant.1))
-
-pub loop-h-preserved : goal.loop-h-preserved
-unfolding own_alone
-loop-h-preserved c =
-    let a = c.args in
-    (omega arith, count_more (is_own a.numbers.now a.player) _ _ _ c.loop-h.invariant.1 c.count_set-count.ensures)
 
 pub returns : goal.returns
 returns c g e held =
-    count_all (is_own c.args.numbers.now c.args.player) _ _ _ c.loop-h.invariant.1 (omega arith) ∙ ap length (sets_are_own g held c.args.player c.requires.1)
-
-pub loop-h-init : goal.loop-h-init
-loop-h-init c = let a = c.args in (omega arith, count_none (is_own a.numbers.now a.player))
-
-pub overflow_add-h : goal.overflow_add-h
-overflow_add-h c = omega arith
-
-pub loop-h-smaller : goal.loop-h-smaller
-loop-h-smaller c = omega arith
+    count_from_yields_List _ _ c.count.ensures.ran (YieldsList-from_filter _ (is_own c.args.numbers.now (as_player c.args.player)) (YieldsList-from_range 0 _ c.args.sets c.filter.ensures.source (omega arith)) c.filter.ensures.closure (λ x b q k. (search (rules, tests), search (rules, tests, same_read)))) ∙ ap length (sets_kept g held _ e)

@@ -1,12 +1,14 @@
--- Each branch is one player's side.
+-- Each arm is one player's side.
+use mathlib.Core.Path.{sym, ap}
 use Rattle.loaded.specs.Counts.{side_of}
-use Rattle.loaded.proofs.Owners.{of_first, of_second}
+use Rattle.loaded.specs.Players.{as_player}
+use Rattle.loaded.specs.declared.Player.{Player}
 use Rattle.loaded.proofs.Counts.side.Goals as goal
 
-pub returns-then-player-eq0 : goal.returns-then-player-eq0
+pub returns-in-One : goal.returns-in-One
 unfolding side_of
-returns-then-player-eq0 c = of_first (side_of c.args.self) _ c.if-player-eq0.true
+returns-in-One c = sym (ap (λ (p : Player). side_of c.args.self (as_player p)) c.in-One.is)
 
-pub returns : goal.returns
+pub returns-in-Two : goal.returns-in-Two
 unfolding side_of
-returns c = of_second (side_of c.args.self) _ c.if-player-eq0.false
+returns-in-Two c = sym (ap (λ (p : Player). side_of c.args.self (as_player p)) c.in-Two.is)

@@ -16,16 +16,13 @@ use Rattle.payoff.proofs.sums.leaf_sum.Goals.{After-leaf_term}
 adds : (c : After-leaf_term) → let a = c.args in to_z w64 c.loop-i.sum-bits +ℤ to_z w64 (of_z w64 c.leaf_term.result) ≡ leaf_sum_of a.sorted.now (section chance_section a.numbers.now) (section a.from a.payoffs.now) a.start (c.loop-i.i + 1 - a.start)
 adds c =
     let a = c.args in
-    sum_more _ _ _ _ c.loop-i.i c.loop-i.invariant.0 c.loop-i.invariant.2 (to_z-of_z {w = w64} {z = c.leaf_term.result} (record { sfits = c.leaf_term.type_inv }) ∙ c.leaf_term.ensures ∙ ap (weighed_at (section chance_section a.numbers.now) (section a.from a.payoffs.now)) c.item-leaf.ensures.0)
+    sum_more _ _ _ _ c.loop-i.i c.loop-i.auto.i c.loop-i.invariant.1 (to_z-of_z {w = w64} {z = c.leaf_term.result} (record { sfits = c.leaf_term.type_inv }) ∙ c.leaf_term.ensures ∙ ap (weighed_at (section chance_section a.numbers.now) (section a.from a.payoffs.now)) c.item-leaf.ensures.0)
 
 fits : (c : After-leaf_term) → SFits w64 (to_z w64 c.loop-i.sum-bits +ℤ to_z w64 (of_z w64 c.leaf_term.result))
 fits c = rw (adds c) (c.requires.fit (c.loop-i.i + 1 - c.args.start) (omega arith))
 
 pub loop-i-init : goal.loop-i-init
-loop-i-init c = (omega arith, omega arith, sum_none _ _ _ _)
-
-pub item-leaf-requires : goal.item-leaf-requires
-item-leaf-requires c = omega (arith, c.requires.end_in)
+loop-i-init c = (omega arith, sum_none _ _ _ _)
 
 pub leaf_term-requires : goal.leaf_term-requires
 leaf_term-requires c = (omega (arith, c.requires.chance_in c.loop-i.i (omega arith)), omega (arith, c.requires.payoffs_in c.loop-i.i (omega arith)))
@@ -33,14 +30,8 @@ leaf_term-requires c = (omega (arith, c.requires.chance_in c.loop-i.i (omega ari
 pub added-sum-requires : goal.added-sum-requires
 added-sum-requires c = fits c
 
-pub overflow_add-i : goal.overflow_add-i
-overflow_add-i c = omega arith
-
-pub loop-i-smaller : goal.loop-i-smaller
-loop-i-smaller c = omega arith
-
 pub loop-i-preserved : goal.loop-i-preserved
-loop-i-preserved c = (omega arith, omega arith, to_z-of_z {w = w64} {z = c.added-sum.result} (record { sfits = c.added-sum.type_inv }) ∙ c.added-sum.ensures ∙ adds (goal.at.loop-i-preserved c).After-leaf_term)
+loop-i-preserved c = (omega arith, to_z-of_z {w = w64} {z = c.added-sum.result} (record { sfits = c.added-sum.type_inv }) ∙ c.added-sum.ensures ∙ adds (goal.at.loop-i-preserved c).After-leaf_term)
 
 pub returns : goal.returns
-returns c = let e : c.loop-i.i - c.args.start ≡ c.args.end - c.args.start = omega arith in rw e at c.loop-i.invariant.2
+returns c = let e : c.loop-i.i - c.args.start ≡ c.args.end - c.args.start = omega arith in rw e at c.loop-i.invariant.1

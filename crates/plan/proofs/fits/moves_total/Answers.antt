@@ -1,28 +1,22 @@
-use Prim.Native.Nat.{◌+◌, ◌-◌}
+use Prim.Native.Nat.{◌+◌}
+use mathlib.Core.Path.{◌≡◌, refl}
+use native.Mathlib.Numerals.{add-one}
 use native.Mathlib.Omega.{arith}
-use Rattle.plan.proofs.Sums.{added_none, added_more, added_all, added_bound}
+use Rattle.algebra.specs.Arrays.{item}
+use Rattle.algebra.specs.Bounded.{total_to}
+use Rattle.algebra.proofs.Totals.{count_suc, count_bound}
 use Rattle.plan.proofs.fits.moves_total.Goals as goal
 
--- with the next weight the sum is that of at most 64 weights of 16 bits
+-- with the next number the sum is that of at most 64 numbers of 16 bits
 pub overflow_add-sum : goal.overflow_add-sum
-overflow_add-sum c =
-    let small = c.shared_slice_known-1.given in
-    omega (arith, c.requires.0, added_bound _ _ 65535 _ _ c.loop-m.invariant (λ i l. omega (arith, small (c.args.start + i))), c.number-sum.ensures.1)
+overflow_add-sum c = omega (arith, c.loop-m.invariant, count_bound c.loop-m.m 65535 (λ k. item c.args.x.now (c.args.start + k)) (λ k _. omega (arith, c.type_inv.x (c.args.start + k))))
 
 pub loop-m-init : goal.loop-m-init
-loop-m-init c = added_none _ _
-
-pub number-sum-requires : goal.number-sum-requires
-number-sum-requires c = omega arith
-
-pub overflow_add-m : goal.overflow_add-m
-overflow_add-m c = omega arith
-
-pub loop-m-smaller : goal.loop-m-smaller
-loop-m-smaller c = omega arith
+unfolding total_to
+loop-m-init c = refl
 
 pub loop-m-preserved : goal.loop-m-preserved
-loop-m-preserved c = added_more _ _ _ _ _ c.loop-m.invariant (omega arith) c.number-sum.ensures.0
+loop-m-preserved c = rw add-one (omega (arith, count_suc c.loop-m.m (λ k. item c.args.x.now (c.args.start + k))))
 
 pub returns : goal.returns
-returns c = added_all _ _ _ _ c.loop-m.invariant (omega arith)
+returns c = let e : c.loop-m.m ≡ c.args.moves = omega arith in rw e at c.loop-m.invariant

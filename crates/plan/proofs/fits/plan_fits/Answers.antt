@@ -1,19 +1,17 @@
 -- Both arrays are filled with the file's weights, so that the answer on them is that on the file.
-use mathlib.Core.Path.{◌≡◌, refl}
+use mathlib.Core.Path.{◌≡◌}
 use native.Mathlib.Omega.{arith}
-use borrow.Author.Rules.{rules}
 use Rattle.algebra.specs.Arrays.{over}
 use Rattle.algebra.proofs.Fillings.{filled}
 use Rattle.model.specs.Game.{Game, one, two}
 use Rattle.model.specs.Sequences.{sequence_count}
-use Rattle.model.specs.Plan.{weights_before}
 use Rattle.loaded.specs.Loaded.{NumbersLoaded}
 use Rattle.plan.specs.Loaded.{SequencesCounted}
 use Rattle.plan.specs.Weights.{weight_by_number}
 use Rattle.plan.proofs.Balance.{loaded_sets, asked_all}
 use Rattle.plan.proofs.ByNumber.{by_number_from, pair_fits}
 use Rattle.plan.proofs.FormatChecks.{header_d1, header_d2, header_small}
-use Rattle.plan.proofs.Refusals.{counted, few_sequences, room}
+use Rattle.plan.proofs.Refusals.{counted, few_sequences, run_is, run_few, room}
 use Rattle.plan.proofs.fits.plan_fits.Goals as goal
 use Rattle.plan.proofs.fits.plan_fits.Goals.{After-decode, After-decode-2, Start}
 
@@ -21,31 +19,38 @@ use Rattle.plan.proofs.fits.plan_fits.Goals.{After-decode, After-decode-2, Start
 few : (s : Start) → SequencesCounted s.args.counts
 few s = let l = s.requires.0.loaded in few_sequences l.rules l.limits l.counts_are
 
-pub decode-requires : goal.decode-requires
-decode-requires c =
-    let n = few (goal.at.decode-requires c).Start in
-    ((header_small _ _ c.read-header.ensures).0, omega arith, omega (arith, n.some2, n.few), omega (arith, n.some1, n.few, c.requires.1))
-
-pub decode-requires-2 : goal.decode-requires-2
-decode-requires-2 c =
-    let n = few (goal.at.decode-requires-2 c).Start in
-    ((header_small _ _ c.read-header.ensures).1, omega (arith, n.some2, n.few), omega (arith, n.some1, n.few), omega (arith, n.some2, n.few, c.requires.2))
-
-pub pair_fits-requires : goal.pair_fits-requires
-pair_fits-requires c =
-    let l = c.requires.0 in
-    (asked_all l 0 (omega arith) _ (omega (arith, c.decode.auto, c.requires.1)), asked_all l 1 (omega arith) _ (omega (arith, c.decode-2.auto, c.requires.2)))
-
 -- player 1's weights
 weights1 : (c : After-decode) → (g : Game) → NumbersLoaded g c.args.counts c.args.numbers.now → c.decode.new.out ≡ over (weight_by_number g c.args.plan.now one) (sequence_count g one) c.args.x.now
-unfolding weights_before
-weights1 c g l = by_number_from g _ one _ c.decode.ensures (header_d1 g _ _ c.read-header.ensures) refl (counted l.counts_are).moves1
+weights1 c g l =
+    let run = run_is g l.counts_are one c.of-first.ensures in
+    by_number_from g _ one _ c.decode.ensures (header_d1 g _ _ c.read-header.ensures) run.0 run.1
 
 -- and player 2's
 weights2 : (c : After-decode-2) → (g : Game) → NumbersLoaded g c.args.counts c.args.numbers.now → c.decode-2.new.out ≡ over (weight_by_number g c.args.plan.now two) (sequence_count g two) c.args.y.now
 weights2 c g l =
-    let n = counted l.counts_are in
-    by_number_from g _ two _ c.decode-2.ensures (header_d2 g _ _ c.read-header.ensures) n.before n.moves2
+    let run = run_is g l.counts_are two c.of-second.ensures in
+    by_number_from g _ two _ c.decode-2.ensures (header_d2 g _ _ c.read-header.ensures) run.0 run.1
+
+pub of-first-requires : goal.of-first-requires
+of-first-requires c = few (goal.at.of-first-requires c).Start
+
+pub of-second-requires : goal.of-second-requires
+of-second-requires c = few (goal.at.of-second-requires c).Start
+
+pub decode-requires : goal.decode-requires
+decode-requires c =
+    let run = run_few (few (goal.at.decode-requires c).Start) one c.of-first.ensures in
+    ((header_small _ _ c.read-header.ensures).0, run.0, run.1, omega (arith, run.1, c.requires.1))
+
+pub decode-requires-2 : goal.decode-requires-2
+decode-requires-2 c =
+    let run = run_few (few (goal.at.decode-requires-2 c).Start) two c.of-second.ensures in
+    ((header_small _ _ c.read-header.ensures).1, run.0, run.1, omega (arith, run.1, c.requires.2))
+
+pub pair_fits-requires : goal.pair_fits-requires
+pair_fits-requires c =
+    let l = c.requires.0 in
+    (asked_all l one _ (omega (arith, c.decode.auto, c.requires.1)), asked_all l two _ (omega (arith, c.decode-2.auto, c.requires.2)))
 
 pub returns : goal.returns
 returns c g l =
@@ -54,9 +59,3 @@ returns c g l =
     let held1 = filled _ first (room l.rules l.limits one c.args.x.now c.requires.1) in
     let held2 = filled _ second (room l.rules l.limits two c.args.y.now c.requires.2) in
     record { answer = pair_fits g l.rules c.args.plan.now held1 held2 (c.pair_fits.ensures g (loaded_sets l) (counted l.counts_are).sets_are); first = first; second = second }
-
-pub overflow_sub-moves1 : goal.overflow_sub-moves1
-overflow_sub-moves1 c = omega (arith, (few (goal.at.overflow_sub-moves1 c).Start).some1)
-
-pub overflow_sub-moves2 : goal.overflow_sub-moves2
-overflow_sub-moves2 c = omega (arith, (few (goal.at.overflow_sub-moves2 c).Start).some2)

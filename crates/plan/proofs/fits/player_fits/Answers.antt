@@ -1,20 +1,9 @@
-use Prim.Native.Nat.{◌-◌}
 use native.Mathlib.Omega.{arith}
 use Rattle.model.specs.Plan.{fits}
+use Rattle.checks.specs.declared.Refusal.TheVariants.{PlanUnfit}
 use Rattle.checks.proofs.Passes.{passed_none, passed_more, passed_not, passed_all}
 use Rattle.plan.proofs.Balance.{asked_less}
 use Rattle.plan.proofs.fits.player_fits.Goals as goal
-
-pub loop-h-preserved : goal.loop-h-preserved
-loop-h-preserved c g sets e = passed_more _ _ _ _ (c.loop-h.invariant g sets e) (omega arith) (c.set_balanced.ensures g sets (omega arith)) c.if-set_balanced.true
-
-pub returns-else-set_balanced : goal.returns-else-set_balanced
-unfolding fits
-returns-else-set_balanced c g sets e = passed_not _ _ 16 _ _ (omega arith) (c.set_balanced.ensures g sets (omega arith)) c.if-set_balanced.false
-
-pub returns : goal.returns
-unfolding fits
-returns c g sets e = passed_all _ _ 16 _ (c.loop-h.invariant g sets e) (omega arith)
 
 pub loop-h-init : goal.loop-h-init
 loop-h-init c g sets e = passed_none _ _
@@ -22,8 +11,13 @@ loop-h-init c g sets e = passed_none _ _
 pub set_balanced-requires : goal.set_balanced-requires
 set_balanced-requires c = asked_less c.requires c.loop-h.h (omega arith)
 
-pub overflow_add-h : goal.overflow_add-h
-overflow_add-h c = omega arith
+pub loop-h-preserved : goal.loop-h-preserved
+loop-h-preserved c g sets e = passed_more _ _ _ _ (c.loop-h.invariant g sets e) (omega arith) (c.set_balanced.ensures g sets (omega arith)) c.if-not-set_balanced.false
 
-pub loop-h-smaller : goal.loop-h-smaller
-loop-h-smaller c = omega arith
+pub returns-then-not-set_balanced : goal.returns-then-not-set_balanced
+unfolding fits
+returns-then-not-set_balanced c g sets e = passed_not _ _ PlanUnfit _ _ (omega arith) (c.set_balanced.ensures g sets (omega arith)) c.if-not-set_balanced.true
+
+pub returns : goal.returns
+unfolding fits
+returns c g sets e = passed_all _ _ PlanUnfit _ (c.loop-h.invariant g sets e) (omega arith)

@@ -1,27 +1,22 @@
--- The sections tell whose the set is and where its weights stand (`WeightPlaces`).
+-- The sections tell whose the set is and where its weights stand.
 use native.Mathlib.Omega.{arith}
-use Rattle.plan.proofs.Balance.{SetRead, WeightPlaces, weight_places, balance_is, other_set}
+use lib.ListN.{length}
+use Rattle.loaded.proofs.SetsRead.{Stand}
+use Rattle.plan.proofs.Balance.{weights_stand, balance_is, other_set}
 use Rattle.plan.proofs.fits.set_balanced.Goals as goal
-use Rattle.plan.proofs.fits.set_balanced.Goals.{After-number-lead}
+use Rattle.plan.proofs.fits.set_balanced.Goals.{After-set_sequences-set}
 
--- the set as it is read
-read : (c : After-number-lead) → let a = c.args in SetRead a.numbers.now a.h c.number-start.result c.number-moves.result c.number-lead.result
-read c = record { start_is = c.number-start.ensures.0; moves_are = c.number-moves.ensures.0; lead_is = c.number-lead.ensures.0 }
+stands : (c : After-set_sequences-set) → Stand (length c.args.x.now) c.set_sequences-set.result
+stands c = weights_stand c.owner.result c.args.player c.requires c.owner.ensures c.if-eq.ensures c.set_sequences-set.ensures
 
--- where its weights stand
-stands : (c : After-number-lead) → WeightPlaces c.args.x.now c.number-start.result c.number-moves.result c.number-lead.result
-stands c = weight_places c.requires c.number.ensures.0 c.if-number-player.true (read c)
-
-pub returns-then-number-player : goal.returns-then-number-player
-returns-then-number-player c g sets l =
-    balance_is sets c.args.h l c.args.player c.requires.known c.number.ensures.0 c.if-number-player.true (read (goal.at.returns-then-number-player c).After-number-lead) c.args.x.now c.moves_total.ensures c.number-then-number-player.ensures.0
+pub returns-then-eq : goal.returns-then-eq
+returns-then-eq c g sets l = balance_is sets l c.owner.result c.args.player c.owner.ensures c.if-eq.ensures c.set_sequences-set.ensures c.args.x.now c.moves_total.ensures c.number.ensures.0
 
 pub returns : goal.returns
-returns c g sets l =
-    other_set sets c.args.h l c.args.player c.requires.known c.number.ensures.0 c.args.x.now c.if-number-player.false
+returns c g sets l = other_set sets l c.owner.result c.args.player c.owner.ensures c.args.x.now c.if-eq.ensures
 
 pub moves_total-requires : goal.moves_total-requires
 moves_total-requires c = ((stands c).few, (stands c).block)
 
-pub number-requires-then-number-player : goal.number-requires-then-number-player
-number-requires-then-number-player c = omega (arith, (stands (goal.at.number-requires-then-number-player c).After-number-lead).below)
+pub number-requires : goal.number-requires
+number-requires c = omega (arith, (stands (goal.at.number-requires c).After-set_sequences-set).below)

@@ -1,18 +1,21 @@
 -- The header's tests and the filling's are the model's; the filling is less than a byte, so its field can be read.
-use mathlib.Core.Path.{sym, ◌∙◌}
-use Rattle.plan.proofs.FormatChecks.{formed_fine, formed_filled, formed_wrong}
+use Prim.Native.Nat.{ℕ}
+use mathlib.Core.Path.{ap, ◌∙◌}
+use lib.Dec.{eqb}
+use Rattle.checks.specs.declared.Refusal.TheVariants.{PlanForm}
+use Rattle.checks.specs.Answers.{checked_of}
+use Rattle.plan.proofs.FormatChecks.{well_formed_is}
 use Rattle.plan.proofs.Refusals.{counted}
 use Rattle.plan.proofs.format.well_formed.Goals as goal
+use Rattle.plan.proofs.format.well_formed.Goals.{then-header_right, else-header_right}
 
-pub returns-then-read_field-eq0 : goal.returns-then-read_field-eq0
-returns-then-read_field-eq0 c g e =
+pub returns : goal.returns
+returns c g e =
     let at = c.weight_at-at.ensures in
-    formed_fine g _ _ (c.weight_count.ensures ∙ (counted e).all) _ c.read.ensures (sym c.header_right.ensures ∙ c.if-header_right.true) (rw at at (sym c.read_field.ensures.0 ∙ c.if-read_field-eq0.true))
-
-pub returns-else-read_field-eq0 : goal.returns-else-read_field-eq0
-returns-else-read_field-eq0 c g e =
-    let at = c.weight_at-at.ensures in
-    formed_filled g _ _ (c.weight_count.ensures ∙ (counted e).all) _ c.read.ensures (λ z. c.if-read_field-eq0.false (c.read_field.ensures.0 ∙ rw at z))
-
-pub returns-else-header_right : goal.returns-else-header_right
-returns-else-header_right c g e = formed_wrong g _ _ (counted e).all _ c.read.ensures (sym c.header_right.ensures ∙ c.if-header_right.false)
+    let right = c.header_right.ensures in
+    let model = well_formed_is g c.args.plan.now c.weight_count.result (c.weight_count.ensures ∙ (counted e).all) c.read.result c.read.ensures in
+    c.check.ensures
+    ∙ ap (checked_of PlanForm) (elim c.if-header_right.branch [
+      | then-header_right w ↦ rw (model, ← right, w.if-header_right.true) (w.check-is ∙ ap (λ (k : ℕ). eqb k 0) (rw at at w.read_field.ensures.0))
+      | else-header_right w ↦ rw (model, ← right, w.if-header_right.false) (w.check-is ∙ w.if-header_right.false)
+    ])

@@ -1,4 +1,4 @@
-use Prim.Native.Nat.{ℕ, ◌-◌}
+use Prim.Native.Nat.{ℕ}
 use mathlib.Core.Path.{◌≡◌, ap, ◌∙◌}
 use native.Mathlib.Omega.{arith}
 use lib.ListN.{length}
@@ -22,17 +22,11 @@ number-requires c = omega arith
 pub overflow_add-out : goal.overflow_add-out
 overflow_add-out c = omega (arith, long (goal.at.overflow_add-out c).At-loop-i)
 
-pub offset_bounds-out-at : goal.offset_bounds-out-at
-offset_bounds-out-at c = omega (arith, long (goal.at.offset_bounds-out-at c).At-loop-i)
+pub offset_bounds-out-run : goal.offset_bounds-out-run
+offset_bounds-out-run c = omega (arith, long (goal.at.offset_bounds-out-run c).At-loop-i)
 
-pub bounds-out-at : goal.bounds-out-at
-bounds-out-at c = omega (arith, long (goal.at.bounds-out-at c).At-loop-i)
-
-pub overflow_add-i : goal.overflow_add-i
-overflow_add-i c = omega arith
-
-pub loop-i-smaller : goal.loop-i-smaller
-loop-i-smaller c = omega arith
+pub bounds-out-run : goal.bounds-out-run
+bounds-out-run c = omega (arith, long (goal.at.bounds-out-run c).At-loop-i)
 
 pub shape_of-out : goal.shape_of-out
 shape_of-out c = long (goal.at.shape_of-out c).At-loop-i

@@ -11,7 +11,7 @@ read_run-requires c =
 pub returns : goal.returns
 returns c =
     let a = c.args in
-    decoded a.plan.now a.denominator a.before a.moves a.out.now (rw c.weight_at-at.ensures at c.read_run.ensures) c.requires.3
+    decoded a.plan.now a.denominator a.run.before a.run.count a.out.now (rw c.weight_at-at.ensures at c.read_run.ensures) c.requires.3
 
 pub shape_of-out : goal.shape_of-out
 shape_of-out c = let a = c.args in omega (arith, c.read_run.auto, length-set a.out.now 0 a.denominator)

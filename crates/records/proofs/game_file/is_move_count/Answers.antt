@@ -1,13 +1,20 @@
--- Each way returns the model's conjunction, whose first test is known.
-use mathlib.Core.Path.{refl}
-use borrow.Author.Tests.{le-leb, lt-leb}
+-- The range's test is the model's conjunction.
+use Rattle.std.specs.Prelude.{ℕ, ◌≡◌, ◌&&◌, leb}
+use Rattle.std.specs.Ordering.{nat_cmp, is_le}
+use Rattle.std.proofs.Common.{arith, refl}
+use Rattle.std.proofs.lemmas.Grind.{common_steps}
 use Rattle.model.specs.GameChecks.{is_move_count_of}
 use Rattle.records.proofs.game_file.is_move_count.Goals as goal
 
-pub returns-then-moves-ge1 : goal.returns-then-moves-ge1
-unfolding is_move_count_of
-returns-then-moves-ge1 c = rw (le-leb 1 _ c.if-moves-ge1.true) refl
+le_test : (a b : ℕ) → is_le (nat_cmp a b) ≡ leb a b
+le_test a b = grind (arith, common_steps)
 
-pub returns-else-moves-ge1 : goal.returns-else-moves-ge1
+-- between two numbers
+both_test : (low high k : ℕ) → (is_le (nat_cmp low k) && is_le (nat_cmp k high)) ≡ (leb low k && leb k high)
+both_test low high k = rw (le_test low k, le_test k high) refl
+
+pub returns : goal.returns
 unfolding is_move_count_of
-returns-else-moves-ge1 c = rw (lt-leb 1 _ c.if-moves-ge1.false)
+returns c =
+    let range = c.new.ensures in
+    rw (c.contains.ensures.value, range.exhausted, range.start, range.end) (both_test 1 64 c.args.moves)

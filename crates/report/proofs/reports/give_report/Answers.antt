@@ -1,9 +1,8 @@
 -- The report is put into a buffer that is long enough, and given from there.
 use Prim.Native.Nat.{ℕ, ◌+◌, ◌≤◌}
-use mathlib.Core.Path.{◌≡◌, refl, sym}
+use mathlib.Core.Path.{◌≡◌}
 use native.Mathlib.Omega.{arith}
 use lib.ListN.{length}
-use lib.Seq.{length-take-le}
 use Rattle.text.proofs.Puts.{put_read}
 use Rattle.report.proofs.reports.give_report.Goals as goal
 use Rattle.report.proofs.reports.give_report.Goals.{After-write-size}
@@ -25,17 +24,5 @@ within c = ends c.write-size.ensures.place c.requires.1 c.write-size.auto.out
 pub returns : goal.returns
 returns c = rw (put_read c.write-size.ensures) at c.give.ensures
 
-pub slice_bounds-write-end : goal.slice_bounds-write-end
-slice_bounds-write-end c = refl
-
 pub slice_bounds-text-end : goal.slice_bounds-text-end
 slice_bounds-text-end c = within (goal.at.slice_bounds-text-end c).After-write-size
-
-pub slice_bounds-give-end : goal.slice_bounds-give-end
-slice_bounds-give-end c = sym (length-take-le _ _ (within (goal.at.slice_bounds-give-end c).After-write-size))
-
-pub give-requires : goal.give-requires
-give-requires c = tt
-
-pub shape_of-out : goal.shape_of-out
-shape_of-out c = c.give.auto.out

@@ -1,33 +1,25 @@
 -- One text for each case of the verdict. The answers stand before what their calls ask.
-use native.Mathlib.Omega.{arith}
-use borrow.Author.Rules.{rules}
-use mir.Syntax.{w64}
-use mir.Val.{SFits}
-use mir.Facts.{to_z-of_z}
-use Rattle.report.proofs.Wholes.{text_accepted, text_first, text_second}
+use mathlib.Core.Path.{ap}
+use Rattle.loaded.specs.Players.{as_player}
+use Rattle.report.proofs.Wholes.{text_accepted, text_found}
 use Rattle.report.proofs.whole.put_verdict.Goals as goal
-use Rattle.report.proofs.whole.put_verdict.Goals.{In-Deviation}
 
 pub returns-in_default : goal.returns-in_default
 returns-in_default c =
     let a = c.args in
     rw (text_accepted a.numbers.now a.sets a.base a.moves1.now a.moves2.now c.in_default.is) c.put_accepted.ensures
 
--- what is read of the gain is what it is
-gain_fits : (c : In-Deviation) → SFits w64 c.in-Deviation.gain
-gain_fits c = search rules
-
-pub returns-then-player_number-eq1 : goal.returns-then-player_number-eq1
-returns-then-player_number-eq1 c =
+pub returns-in-One : goal.returns-in-One
+returns-in-One c =
     let a = c.args in
-    let text = text_first a.numbers.now a.sets a.base a.moves1.now a.moves2.now c.in-Deviation.is c.if-player_number-eq1.true in
-    rw text (rw (to_z-of_z (gain_fits (goal.at.returns-then-player_number-eq1 c).In-Deviation)) at c.put_deviation.ensures)
+    let text = text_found a.numbers.now a.sets a.base a.moves1.now a.moves2.now c.in-Some.is (ap as_player c.in-One.is) in
+    rw text c.put_deviation.ensures
 
-pub returns : goal.returns
-returns c =
+pub returns-in-Two : goal.returns-in-Two
+returns-in-Two c =
     let a = c.args in
-    let text = text_second a.numbers.now a.sets a.base a.moves1.now a.moves2.now c.in-Deviation.is c.if-player_number-eq1.false in
-    rw text (rw (to_z-of_z (gain_fits (goal.at.returns c).In-Deviation)) at c.put_deviation-2.ensures)
+    let text = text_found a.numbers.now a.sets a.base a.moves1.now a.moves2.now c.in-Some.is (ap as_player c.in-Two.is) in
+    rw text c.put_deviation-in-Two.ensures
 
 pub put_accepted-requires : goal.put_accepted-requires
 put_accepted-requires c =
@@ -35,10 +27,10 @@ put_accepted-requires c =
 
 pub put_deviation-requires : goal.put_deviation-requires
 put_deviation-requires c =
-    let text = text_first c.args.numbers.now c.args.sets c.args.base c.args.moves1.now c.args.moves2.now c.in-Deviation.is c.if-player_number-eq1.true in
-    rw (to_z-of_z (gain_fits (goal.at.put_deviation-requires c).In-Deviation)) (omega arith, c.requires.0, c.requires.1, rw text at c.requires.3)
+    let text = text_found c.args.numbers.now c.args.sets c.args.base c.args.moves1.now c.args.moves2.now c.in-Some.is (ap as_player c.in-One.is) in
+    (c.requires.0, c.requires.1, rw text at c.requires.3)
 
-pub put_deviation-requires-2 : goal.put_deviation-requires-2
-put_deviation-requires-2 c =
-    let text = text_second c.args.numbers.now c.args.sets c.args.base c.args.moves1.now c.args.moves2.now c.in-Deviation.is c.if-player_number-eq1.false in
-    rw (to_z-of_z (gain_fits (goal.at.put_deviation-requires-2 c).In-Deviation)) (omega arith, c.requires.0, c.requires.2, rw text at c.requires.3)
+pub put_deviation-requires-in-Two : goal.put_deviation-requires-in-Two
+put_deviation-requires-in-Two c =
+    let text = text_found c.args.numbers.now c.args.sets c.args.base c.args.moves1.now c.args.moves2.now c.in-Some.is (ap as_player c.in-Two.is) in
+    (c.requires.0, c.requires.2, rw text at c.requires.3)

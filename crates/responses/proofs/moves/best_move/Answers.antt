@@ -1,4 +1,4 @@
-use Prim.Native.Nat.{◌+◌, ◌-◌}
+use Prim.Native.Nat.{◌+◌}
 use mathlib.Core.Path.{◌≡◌}
 use native.Mathlib.Omega.{arith}
 use borrow.Author.Rules.{sfits_of}
@@ -15,48 +15,24 @@ loop-m-preserved c =
     let p = c.loop-m in
     let a = c.args in
     let x = to_z-of_z {w = w64} {z = item_z a.worths.now (a.start + p.best)} (sfits_of c.t10-1.given) in
-    let y = to_z-of_z {w = w64} {z = item_z a.worths.now (a.start + p.m)} (sfits_of c.t14-1.given) in (
-      omega arith,
-      omega arith,
-      elim c.if-worths-start.branch [
-        | then-worths-start w ↦ rw w.best-is (foremost_new _ p.invariant.2 (rw (x, y) at w.if-worths-start.true))
-        | else-worths-start w ↦ rw w.best-is (foremost_old _ p.invariant.2 (rw (x, y) at w.if-worths-start.false))
-      ],
-    )
+    let y = to_z-of_z {w = w64} {z = item_z a.worths.now (a.start + p.m)} (sfits_of c.t14-1.given) in
+    elim c.if-worths-start.branch [
+      | then-worths-start w ↦ rw w.best-is (foremost_new _ p.invariant (rw (x, y) at w.if-worths-start.true))
+      | else-worths-start w ↦ rw w.best-is (foremost_old _ p.invariant (rw (x, y) at w.if-worths-start.false))
+    ]
 
 pub returns : goal.returns
 unfolding best_stored
 returns c =
     let p = c.loop-m in
-    let e : p.m ≡ c.args.count = omega (arith, p.invariant.1) in
-    foremost_is _ _ _ (rw e at p.invariant.2)
+    let e : p.m ≡ c.args.count = omega arith in
+    foremost_is _ _ _ (rw e at p.invariant)
 
 pub loop-m-init : goal.loop-m-init
-loop-m-init c = (omega arith, omega arith, foremost_one _)
-
-pub overflow_add-start : goal.overflow_add-start
-overflow_add-start c = omega arith
-
-pub offset_bounds-worths-start : goal.offset_bounds-worths-start
-offset_bounds-worths-start c = omega arith
+loop-m-init c = foremost_one _
 
 pub bounds-worths-start : goal.bounds-worths-start
-bounds-worths-start c = omega arith
-
-pub overflow_add-start-in-loop-m : goal.overflow_add-start-in-loop-m
-overflow_add-start-in-loop-m c = omega arith
-
-pub offset_bounds-worths-start-in-loop-m : goal.offset_bounds-worths-start-in-loop-m
-offset_bounds-worths-start-in-loop-m c = omega arith
-
-pub bounds-worths-start-in-loop-m : goal.bounds-worths-start-in-loop-m
-bounds-worths-start-in-loop-m c = omega arith
-
-pub overflow_step-m : goal.overflow_step-m
-overflow_step-m c = omega arith
-
-pub loop-m-smaller : goal.loop-m-smaller
-loop-m-smaller c = omega arith
+bounds-worths-start c = omega (arith, c.loop-m.invariant.inside)
 
 pub overflow_cast-result : goal.overflow_cast-result
-overflow_cast-result c = omega (arith, c.loop-m.invariant.2.inside)
+overflow_cast-result c = omega (arith, c.loop-m.invariant.inside)

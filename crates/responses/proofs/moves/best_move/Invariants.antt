@@ -1,11 +1,8 @@
 -- The invariant: `best` is the lowest-numbered worthiest of the first `m` moves.
-use Prim.Native.Nat.{◌+◌, ◌-◌, ◌≤◌}
+use Prim.Native.Nat.{◌+◌}
 use Rattle.algebra.specs.Arrays.{item_z}
 use Rattle.responses.proofs.Greatest.{Foremost}
 use Rattle.responses.proofs.moves.best_move.Given as goal
 
 abbrev pub invariant-loop-m : goal.invariant-loop-m
-invariant-loop-m l = (1 ≤ l.m) × (l.m ≤ l.count) × Foremost (λ j. item_z l.worths (l.start + j)) l.m l.best
-
-abbrev pub decreases-loop-m : goal.decreases-loop-m
-decreases-loop-m l = l.count - l.m
+invariant-loop-m l = Foremost (λ j. item_z l.worths (l.start + j)) l.m l.best

@@ -1,82 +1,71 @@
 -- At the root the number is 0; elsewhere it is that of the player's move at the parent, or the parent's own, stored or not.
-use mathlib.Core.Path.{sym, ◌∙◌}
+use Prim.Native.Nat.{ℕ, ◌<◌}
+use mathlib.Core.Path.{sym}
 use native.Mathlib.Omega.{arith}
-use Rattle.model.specs.Game.{player_of}
-use Rattle.loaded.proofs.NodeReads.{kind_read}
+use lib.Dec.{T}
+use Rattle.model.specs.Game.{Game}
+use Rattle.model.specs.Sequences.{acts}
+use Rattle.loaded.specs.Players.{as_player}
 use Rattle.loaded.proofs.Owners.{is_owner, not_owner}
-use Rattle.sequences.proofs.Nodes.{no_decision, own_decision, other_decision, decision_read}
+use Rattle.sequences.specs.Recall.{OwnStored}
+use Rattle.sequences.proofs.Nodes.{Decision, no_decision, own_decision, other_decision, decision_of, no_set}
 use Rattle.sequences.proofs.Own.{number_root, parent_below, parent_in, number_made, number_walked, number_stored}
-use Rattle.sequences.proofs.Stored.{own_range}
 use Rattle.sequences.proofs.recall.+last_own_move.Goals as goal
-use Rattle.sequences.proofs.recall.+last_own_move.Goals.{then-kind-eq-DECISION+else-owner-player, else-kind-eq-DECISION}
+use Rattle.sequences.proofs.recall.+last_own_move.Goals.{In-Some, Joined-set_of, in-Some+else-eq, in_default}
+
+-- a parent that is a decision, of the set that is read
+decision : {t : ℕ} (c : In-Some t) (g : Game) → c.args.n < g.nodes → OwnStored g (as_player c.args.player) c.args.stored c.args.numbers.now → Decision g c.number-parent.result c.in-Some.set
+decision c g l S =
+    let v = parent_in S c.if-n-eq-ROOT.false l c.number-parent.ensures.0 in
+    decision_of (c.set_of.ensures g v S.decoded) S.rooted v c.in-Some.is
+
+-- past the test of the parent, the player does not move there
+waits : {t : ℕ} (c : Joined-set_of t) (g : Game) → c.args.n < g.nodes → OwnStored g (as_player c.args.player) c.args.stored c.args.numbers.now → ¬ T (acts g (as_player c.args.player) c.number-parent.result)
+waits c g l S =
+    let v = parent_in S c.if-n-eq-ROOT.false l c.number-parent.ensures.0 in
+    let asked = c.set_of.ensures g v S.decoded in
+    elim c.match-set_of.branch [
+      | in-Some+else-eq w ↦ let D = decision_of asked S.rooted v w.in-Some.is in other_decision D _ (not_owner g S.decoded.sets_decoded.players D.below _ _ w.owner.ensures w.if-eq.ensures)
+      | in_default w ↦ no_decision g _ _ (no_set g _ asked w.in_default.is)
+    ]
 
 pub returns-then-n-eq-ROOT : goal.returns-then-n-eq-ROOT
 returns-then-n-eq-ROOT t c = λ g l S. rw c.if-n-eq-ROOT.true (sym (number_root g _))
 
-pub number-set-requires : goal.number-set-requires
-number-set-requires t c =
+pub set_of-requires : goal.set_of-requires
+set_of-requires t c =
     let q = c.requires in
-    omega (arith, parent_in q.3 c.if-n-eq-ROOT.false q.2 c.number-parent.ensures.0, q.3.decoded.room, q.3.decoded.few_nodes)
+    omega (arith, parent_in q.2 c.if-n-eq-ROOT.false q.1 c.number-parent.ensures.0, q.2.decoded.room, q.2.decoded.few_nodes)
 
-pub number-owner-requires : goal.number-owner-requires
-number-owner-requires t c =
+pub owner-requires : goal.owner-requires
+owner-requires t c =
     let q = c.requires in
-    let S = q.3 in
-    let v = parent_in S c.if-n-eq-ROOT.false q.2 c.number-parent.ensures.0 in
-    let D = decision_read S.decoded v S.rooted c.number-kind.ensures.0 c.if-kind-eq-DECISION.true c.number-set.ensures.0 in
-    omega (arith, D.below, S.decoded.room, S.decoded.few_sets)
+    omega (arith, (decision (goal.at.owner-requires t c).In-Some q.0 q.1 q.2).below, q.2.decoded.room, q.2.decoded.few_sets)
 
 pub number-start-requires : goal.number-start-requires
 number-start-requires t c =
     let q = c.requires in
-    let S = q.3 in
-    let v = parent_in S c.if-n-eq-ROOT.false q.2 c.number-parent.ensures.0 in
-    let D = decision_read S.decoded v S.rooted c.number-kind.ensures.0 c.if-kind-eq-DECISION.true c.number-set.ensures.0 in
-    omega (arith, D.below, S.decoded.room, S.decoded.few_sets)
+    omega (arith, (decision (goal.at.number-start-requires t c).In-Some q.0 q.1 q.2).below, q.2.decoded.room, q.2.decoded.few_sets)
 
-pub returns-then-owner-player : goal.returns-then-owner-player
-returns-then-owner-player t c = λ g l S.
-    let z = c.if-n-eq-ROOT.false in
-    let e = c.number-parent.ensures.0 in
-    let D = decision_read S.decoded (parent_in S z l e) S.rooted c.number-kind.ensures.0 c.if-kind-eq-DECISION.true c.number-set.ensures.0 in
-    let moves = own_decision D _ (is_owner g S.decoded.sets_decoded.players _ _ c.requires.1 D.below (sym c.number-owner.ensures.0 ∙ c.if-owner-player.true)) in
-    number_made S z l e D moves c.number-start.ensures.0 c.number-place.ensures.0
-
-pub number-requires : goal.number-requires
-number-requires t c =
-    let q = c.requires in
-    let below = parent_below q.3 c.if-n-eq-ROOT.false q.2 c.number-parent.ensures.0 in
-    omega (arith, c.own_section.ensures, own_range (player_of c.args.player), below, q.2, q.3.decoded.room, q.3.decoded.few_nodes)
+pub returns-then-eq : goal.returns-then-eq
+returns-then-eq t c = λ g l S.
+    let D = decision (goal.at.returns-then-eq t c).In-Some g l S in
+    let moves = own_decision D _ (is_owner g S.decoded.sets_decoded.players D.below _ _ c.owner.ensures c.if-eq.ensures) in
+    number_made S c.if-n-eq-ROOT.false l c.number-parent.ensures.0 D moves c.number-start.ensures.0 c.number-place.ensures.0
 
 pub returns-then-parent-stored : goal.returns-then-parent-stored
 returns-then-parent-stored t c = λ g l S.
-    let z = c.if-n-eq-ROOT.false in
-    let e = c.number-parent.ensures.0 in
-    let k = c.number-kind.ensures.0 in
-    let v = parent_in S z l e in
-    number_stored S z l e
-    (elim c.if-kind-eq-DECISION.branch [
-      | then-kind-eq-DECISION+else-owner-player w ↦ let D = decision_read S.decoded v S.rooted k w.if-kind-eq-DECISION.true w.number-set.ensures.0 in other_decision D _ (not_owner g S.decoded.sets_decoded.players _ _ c.requires.1 D.below (λ i. w.if-owner-player.false (w.number-owner.ensures.0 ∙ i)))
-      | else-kind-eq-DECISION w ↦ no_decision g _ _ (λ i. w.if-kind-eq-DECISION.false (k ∙ kind_read S.decoded v ∙ i))
-    ])
-    c.if-parent-stored.true c.own_section.ensures c.number.ensures.0
+    number_stored S c.if-n-eq-ROOT.false l c.number-parent.ensures.0 (waits (goal.at.returns-then-parent-stored t c).Joined-set_of g l S) c.if-parent-stored.true c.own_section.ensures c.number.ensures.0
 
 pub last_own_move-requires : goal.last_own_move-requires
 last_own_move-requires t c =
     let q = c.requires in
     let z = c.if-n-eq-ROOT.false in
     let e = c.number-parent.ensures.0 in
-    (omega (arith, c.decreases, parent_below q.3 z q.2 e), (q.0, q.1, parent_in q.3 z q.2 e, q.3))
+    (omega (arith, c.decreases, parent_below q.2 z q.1 e), (q.0, parent_in q.2 z q.1 e, q.2))
 
 pub returns : goal.returns
 returns t c = λ g l S.
-    let z = c.if-n-eq-ROOT.false in
     let e = c.number-parent.ensures.0 in
-    let k = c.number-kind.ensures.0 in
-    let v = parent_in S z l e in
-    number_walked S z l e
-    (elim c.if-kind-eq-DECISION.branch [
-      | then-kind-eq-DECISION+else-owner-player w ↦ let D = decision_read S.decoded v S.rooted k w.if-kind-eq-DECISION.true w.number-set.ensures.0 in other_decision D _ (not_owner g S.decoded.sets_decoded.players _ _ c.requires.1 D.below (λ i. w.if-owner-player.false (w.number-owner.ensures.0 ∙ i)))
-      | else-kind-eq-DECISION w ↦ no_decision g _ _ (λ i. w.if-kind-eq-DECISION.false (k ∙ kind_read S.decoded v ∙ i))
-    ])
-    (c.last_own_move.ensures g v S)
+    let z = c.if-n-eq-ROOT.false in
+    number_walked S z l e (waits (goal.at.returns t c).Joined-set_of g l S) (c.last_own_move.ensures g (parent_in S z l e) S)

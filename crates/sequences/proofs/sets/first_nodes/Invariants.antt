@@ -1,5 +1,4 @@
--- The invariant: the section has the sets' first nodes from `left` on. With no node left, it has their first nodes.
-use Prim.Native.Nat.{◌≤◌}
+-- The invariant: the section has the sets' first nodes from `n` on. With no node left, it has their first nodes.
 use mathlib.Core.Path.{◌≡◌}
 use Rattle.algebra.specs.Sections.{Held, Apart}
 use Rattle.model.specs.Game.{Game}
@@ -9,8 +8,8 @@ use Rattle.loaded.specs.Loaded.{Decoded}
 use Rattle.sequences.proofs.FirstNodes.{first_from}
 use Rattle.sequences.proofs.sets.first_nodes.Given as goal
 
-abbrev pub invariant-loop-left : goal.invariant-loop-left
-invariant-loop-left l = (l.left ≤ l.nodes) × Apart first_node_section start_section l.initial.numbers l.numbers × ((g : Game) → l.nodes ≡ g.nodes → l.sets ≡ g.sets → Decoded g l.initial.numbers → Rooted g → Held first_node_section (first_from g l.left) g.sets l.numbers)
-
-abbrev pub decreases-loop-left : goal.decreases-loop-left
-decreases-loop-left l = l.left
+abbrev pub invariant-loop-n : goal.invariant-loop-n
+invariant-loop-n l = record {
+  apart : Apart first_node_section start_section l.initial.numbers l.numbers;
+  held : (g : Game) → l.nodes ≡ g.nodes → l.sets ≡ g.sets → Decoded g l.initial.numbers → Rooted g → Held first_node_section (first_from g l.n) g.sets l.numbers;
+}

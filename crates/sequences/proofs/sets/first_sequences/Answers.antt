@@ -1,4 +1,4 @@
-use Prim.Native.Nat.{◌-◌, ◌≤◌, ◌<◌}
+use Prim.Native.Nat.{◌≤◌, ◌<◌}
 use mathlib.Core.Path.{◌≡◌, ◌∙◌}
 use native.Mathlib.Omega.{arith}
 use borrow.Author.Rules.{rules}
@@ -19,9 +19,9 @@ use Rattle.sequences.proofs.sets.first_sequences.Goals.{After-number-moves}
 known : (c : After-number-moves) (g : Game) → c.args.sets ≡ g.sets → Decoded g c.args.numbers.now → (c.number-player.result < 2) × (get_or c.loop-h.next c.number-player.result 0 ≡ first_sequence g c.loop-h.h)
 known c g e D =
     let inv = c.loop-h.invariant in
-    let after = decoded_apart D inv.2 (omega arith) in
+    let after = decoded_apart D inv.apart (omega arith) in
     let player = c.number-player.ensures.0 in
-    (bit_small after (omega (arith, e)) player, next_at after (omega (arith, e)) player (inv.3 g e D).1)
+    (bit_small after (omega (arith, e)) player, next_at after (omega (arith, e)) player (inv.held g e D).1)
 
 -- the number that is stored is small
 small : (c : After-number-moves) → (c.number-player.result < 2) × (get_or c.loop-h.next c.number-player.result 0 ≤ count_limit)
@@ -33,7 +33,7 @@ small c =
 pub put-requires : goal.put-requires
 put-requires c =
     let q = c.requires in
-    (omega (arith, q.1, q.2.room, q.2.few_sets, c.loop-h.invariant.2.long), omega (arith, (small (goal.at.put-requires c).After-number-moves).1))
+    (omega (arith, q.1, q.2.room, q.2.few_sets, c.loop-h.invariant.apart.long), omega (arith, (small (goal.at.put-requires c).After-number-moves).1))
 
 pub loop-h-preserved : goal.loop-h-preserved
 loop-h-preserved c =
@@ -41,32 +41,23 @@ loop-h-preserved c =
     let q = c.requires in
     let put = c.put.ensures in
     let player = c.number-player.ensures.0 in
-    let moves = c.number-moves.ensures.0 in (
-      omega arith,
-      search rules,
-      apart_set _ _ inv.2 put (omega arith) (omega (arith, q.1, q.2.few_sets)),
-      λ g e D.
-          let at = inv.3 g e D in
-          (held_more _ at.0 (omega (arith, e, D.room, D.few_sets, inv.2.long)) put (known (goal.at.loop-h-preserved c).After-number-moves g e D).1, next_add (decoded_apart D inv.2 (omega arith)) (omega (arith, e)) player _ moves at.1),
-    )
+    let moves = c.number-moves.ensures.0 in
+    record {
+      two = search rules;
+      apart = apart_set _ _ inv.apart put (omega arith) (omega (arith, q.1, q.2.few_sets));
+      held = λ g e D.
+          let at = inv.held g e D in
+          (held_more _ at.0 (omega (arith, e, D.room, D.few_sets, inv.apart.long)) put (known (goal.at.loop-h-preserved c).After-number-moves g e D).1, next_add (decoded_apart D inv.apart (omega arith)) (omega (arith, e)) player _ moves at.1);
+    }
 
 pub returns : goal.returns
 returns c =
     let inv = c.loop-h.invariant in
     let e : c.loop-h.h ≡ c.args.sets = omega arith in
-    (λ g w D. (next_counts g _ (inv.3 g w D).1 (e ∙ w), rw (e ∙ w) at (inv.3 g w D).0), inv.2)
+    (λ g w D. (next_counts g _ (inv.held g w D).1 (e ∙ w), rw (e ∙ w) at (inv.held g w D).0), inv.apart)
 
 pub loop-h-init : goal.loop-h-init
-loop-h-init c = (omega arith, search rules, apart_none, λ g e D. (held_none _ (omega (arith, D.room)), next_none g))
-
-pub number-player-requires : goal.number-player-requires
-number-player-requires c = let q = c.requires in omega (arith, q.1, q.2.room, q.2.few_sets, c.loop-h.invariant.2.long)
-
-pub number-moves-requires : goal.number-moves-requires
-number-moves-requires c = let q = c.requires in omega (arith, q.1, q.2.room, q.2.few_sets, c.loop-h.invariant.2.long)
-
-pub offset_bounds-next-player : goal.offset_bounds-next-player
-offset_bounds-next-player c = omega (arith, (small c).0)
+loop-h-init c = record { two = search rules; apart = apart_none; held = λ g e D. (held_none _ (omega (arith, D.room)), next_none g) }
 
 pub bounds-next-player : goal.bounds-next-player
 bounds-next-player c = omega (arith, (small c).0)
@@ -74,23 +65,5 @@ bounds-next-player c = omega (arith, (small c).0)
 pub overflow_add-next : goal.overflow_add-next
 overflow_add-next c = omega (arith, (small (goal.at.overflow_add-next c).After-number-moves).1, c.number-moves.ensures.1)
 
-pub offset_bounds-next-player-in-loop-h : goal.offset_bounds-next-player-in-loop-h
-offset_bounds-next-player-in-loop-h c = omega (arith, (small (goal.at.offset_bounds-next-player-in-loop-h c).After-number-moves).0)
-
 pub bounds-next-player-in-loop-h : goal.bounds-next-player-in-loop-h
 bounds-next-player-in-loop-h c = omega (arith, (small (goal.at.bounds-next-player-in-loop-h c).After-number-moves).0)
-
-pub overflow_add-h : goal.overflow_add-h
-overflow_add-h c = omega arith
-
-pub loop-h-smaller : goal.loop-h-smaller
-loop-h-smaller c = omega arith
-
-pub bounds-next-0 : goal.bounds-next-0
-bounds-next-0 c = omega arith
-
-pub bounds-next-1 : goal.bounds-next-1
-bounds-next-1 c = omega arith
-
-pub shape_of-numbers : goal.shape_of-numbers
-shape_of-numbers c = c.loop-h.invariant.2.long

@@ -1,5 +1,4 @@
 -- The invariant: the first `h` places have the numbers of these sets' first sequences, and `next` has each player's next number.
-use Prim.Native.Nat.{◌-◌, ◌≤◌}
 use mathlib.Core.Path.{◌≡◌}
 use lib.ListN.{length}
 use Rattle.algebra.specs.Arrays.{Holds}
@@ -12,7 +11,8 @@ use Rattle.sequences.proofs.FirstSequences.{next_number}
 use Rattle.sequences.proofs.sets.first_sequences.Given as goal
 
 abbrev pub invariant-loop-h : goal.invariant-loop-h
-invariant-loop-h l = (l.h ≤ l.sets) × (length l.next ≡ 2) × Apart start_section (own_section_of one) l.initial.numbers l.numbers × ((g : Game) → l.sets ≡ g.sets → Decoded g l.initial.numbers → Held start_section (first_sequence g) l.h l.numbers × Holds (next_number g l.h) 2 l.next)
-
-abbrev pub decreases-loop-h : goal.decreases-loop-h
-decreases-loop-h l = l.sets - l.h
+invariant-loop-h l = record {
+  two : length l.next ≡ 2;
+  apart : Apart start_section (own_section_of one) l.initial.numbers l.numbers;
+  held : (g : Game) → l.sets ≡ g.sets → Decoded g l.initial.numbers → Held start_section (first_sequence g) l.h l.numbers × Holds (next_number g l.h) 2 l.next;
+}

@@ -7,22 +7,19 @@ use Rattle.model.specs.Report.{decimal, signed_decimal}
 use Rattle.text.proofs.Decimals.{signed_minus, signed_plain}
 use Rattle.text.proofs.Puts.{room_first, room_then, put_then}
 use Rattle.text.proofs.amount.put_signed.Goals as goal
-use Rattle.text.proofs.amount.put_signed.Goals.{After-magnitude-size, Else-negative, Then-negative}
-
-sized : (c : After-magnitude-size) → c.magnitude-size.result ≡ nat_abs c.args.count
-sized c = rw (to_z-of_z c.ranges.count) at c.magnitude-size.ensures
+use Rattle.text.proofs.amount.put_signed.Goals.{Else-negative, Then-negative}
 
 -- a number below 0
 minus : (c : Then-negative) → signed_decimal c.args.count ≡ (45 ∷ []) ++ decimal c.magnitude-size.result
 minus c =
     let sized : c.magnitude-size.result ≡ nat_abs c.args.count = rw (to_z-of_z c.ranges.count) at c.magnitude-size.ensures in
-    signed_minus c.args.count (sized) (rw (to_z-of_z c.ranges.count) at c.if-negative.true)
+    signed_minus c.args.count sized (rw (to_z-of_z c.ranges.count) at c.if-negative.true)
 
 -- and any other
 plain : (c : Else-negative) → signed_decimal c.args.count ≡ decimal c.magnitude-size.result
 plain c =
     let sized : c.magnitude-size.result ≡ nat_abs c.args.count = rw (to_z-of_z c.ranges.count) at c.magnitude-size.ensures in
-    signed_plain c.args.count (sized) (rw (to_z-of_z c.ranges.count) at c.if-negative.false)
+    signed_plain c.args.count sized (rw (to_z-of_z c.ranges.count) at c.if-negative.false)
 
 pub put_text-digits-requires : goal.put_text-digits-requires
 put_text-digits-requires c = room_first (45 ∷ []) (decimal c.magnitude-size.result) (rw (minus (goal.at.put_text-digits-requires c).Then-negative) at c.requires)

@@ -1,4 +1,3 @@
-use Prim.Native.Nat.{◌-◌}
 use mathlib.Core.Path.{◌≡◌}
 use native.Mathlib.Omega.{arith}
 use lib.ListN.{length}
@@ -16,12 +15,6 @@ loop-m-preserved c = placing_more _ _ _ _ _ _ _ c.loop-m.invariant (omega arith)
 pub loop-m-init : goal.loop-m-init
 loop-m-init c = placing_none _ _ _ _
 
-pub number-requires : goal.number-requires
-number-requires c = omega arith
-
-pub part-requires : goal.part-requires
-part-requires c = tt
-
 pub overflow_add-out : goal.overflow_add-out
 overflow_add-out c = omega (arith, long (goal.at.overflow_add-out c).At-loop-m)
 
@@ -30,12 +23,6 @@ offset_bounds-out-at c = omega (arith, long (goal.at.offset_bounds-out-at c).At-
 
 pub bounds-out-at : goal.bounds-out-at
 bounds-out-at c = omega (arith, long (goal.at.bounds-out-at c).At-loop-m)
-
-pub overflow_add-m : goal.overflow_add-m
-overflow_add-m c = omega arith
-
-pub loop-m-smaller : goal.loop-m-smaller
-loop-m-smaller c = omega arith
 
 pub shape_of-out : goal.shape_of-out
 shape_of-out c = long (goal.at.shape_of-out c).At-loop-m

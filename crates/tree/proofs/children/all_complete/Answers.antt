@@ -1,4 +1,3 @@
-use Prim.Native.Nat.{◌-◌}
 use mathlib.Core.Path.{◌≡◌, sym}
 use native.Mathlib.Omega.{arith}
 use lib.Dec.{eqb}
@@ -29,19 +28,13 @@ row c g t m =
     rw (c.ones.ensures, c.move_count-moves.ensures g t.decoded there, m.at _ there.inside) (sym (complete_is g t.rooted _ there.inside))
 
 pub loop-n-preserved : goal.loop-n-preserved
-loop-n-preserved c = λ g t m. passed_more _ _ _ _ (c.loop-n.invariant g t m) (omega arith) (row (goal.at.loop-n-preserved c).After-ones g t m) (eq-eqb _ _ c.if-seen-n.true)
+loop-n-preserved c = λ g t m. passed_more _ _ _ _ (c.loop-n.invariant g t m) (omega arith) (row (goal.at.loop-n-preserved c).After-ones g t m) (eq-eqb _ _ c.if-seen-n.false)
 
 pub loop-n-init : goal.loop-n-init
 loop-n-init c g t m = passed_none _ _
 
-pub offset_bounds-seen-n : goal.offset_bounds-seen-n
-offset_bounds-seen-n c = omega arith
-
-pub bounds-seen-n : goal.bounds-seen-n
-bounds-seen-n c = omega arith
-
-pub returns-else-seen-n : goal.returns-else-seen-n
-returns-else-seen-n c g t m = passed_not _ _ _ _ _ (omega arith) (row (goal.at.returns-else-seen-n c).After-ones g t m) (ne_eqb _ _ c.if-seen-n.false)
+pub returns-then-seen-n : goal.returns-then-seen-n
+returns-then-seen-n c g t m = passed_not _ _ _ _ _ (omega arith) (row (goal.at.returns-then-seen-n c).After-ones g t m) (ne_eqb _ _ c.if-seen-n.true)
 
 pub returns : goal.returns
 returns c g t m = passed_all _ _ _ _ (c.loop-n.invariant g t m) (omega arith)

@@ -1,4 +1,3 @@
-use Prim.Native.Nat.{◌-◌}
 use mathlib.Core.Path.{◌≡◌}
 use native.Mathlib.Omega.{arith}
 use Rattle.algebra.specs.Arrays.{Holds}
@@ -18,11 +17,11 @@ made : (c : After-weight_right) (g : Game) → TreeIn c.args.nodes c.args.number
 made c g t e h = c.weight_right.ensures _ g t c.loop-n-test.true e (h.at _ (omega arith))
 
 pub loop-n-preserved : goal.loop-n-preserved
-loop-n-preserved c = λ g t e h. passed_more _ _ _ _ (c.loop-n.invariant g t e h) (omega arith) (made (goal.at.loop-n-preserved c).After-weight_right g t e h) c.if-weight_right.true
+loop-n-preserved c = λ g t e h. passed_more _ _ _ _ (c.loop-n.invariant g t e h) (omega arith) (made (goal.at.loop-n-preserved c).After-weight_right g t e h) c.if-not-weight_right.false
 
-pub returns-else-weight_right : goal.returns-else-weight_right
+pub returns-then-not-weight_right : goal.returns-then-not-weight_right
 unfolding weights_obey_rules_of weight_test
-returns-else-weight_right c = λ g t e h. passed_not _ _ _ _ _ (omega arith) (made (goal.at.returns-else-weight_right c).After-weight_right g t e h) c.if-weight_right.false
+returns-then-not-weight_right c = λ g t e h. passed_not _ _ _ _ _ (omega arith) (made (goal.at.returns-then-not-weight_right c).After-weight_right g t e h) c.if-not-weight_right.true
 
 pub returns : goal.returns
 unfolding weights_obey_rules_of weight_test
@@ -30,9 +29,3 @@ returns c = λ g t e h. passed_all _ _ _ _ (c.loop-n.invariant g t e h) (omega a
 
 pub loop-n-init : goal.loop-n-init
 loop-n-init c g t e h = passed_none _ _
-
-pub offset_bounds-sums-n : goal.offset_bounds-sums-n
-offset_bounds-sums-n c = omega arith
-
-pub bounds-sums-n : goal.bounds-sums-n
-bounds-sums-n c = omega arith

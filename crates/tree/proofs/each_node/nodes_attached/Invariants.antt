@@ -1,5 +1,4 @@
 -- The invariant: each node below `n` passes check 8. A node that fails, or the end of the nodes, closes a return.
-use Prim.Native.Nat.{◌-◌}
 use mathlib.Core.Path.{◌≡◌}
 use lib.Dec.{T}
 use Rattle.model.specs.Game.{Game}
@@ -10,6 +9,3 @@ use Rattle.tree.proofs.each_node.nodes_attached.Given as goal
 
 abbrev pub invariant-loop-n : goal.invariant-loop-n
 invariant-loop-n l = (g : Game) → l.nodes ≡ g.nodes → Decoded g l.numbers → T (payloads_in_range_of g) → Passed (attached g) g.nodes l.n
-
-abbrev pub decreases-loop-n : goal.decreases-loop-n
-decreases-loop-n l = l.nodes - l.n

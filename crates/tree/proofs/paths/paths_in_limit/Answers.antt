@@ -1,4 +1,3 @@
-use Prim.Native.Nat.{◌-◌}
 use mathlib.Core.Path.{refl}
 use native.Mathlib.Omega.{arith}
 use Rattle.model.specs.Game.{Game}
@@ -21,26 +20,17 @@ here c = above c c.requires.0 c.requires.1
 pub bounds-depths-parent : goal.bounds-depths-parent
 bounds-depths-parent c = let a = here c in omega arith
 
-pub overflow_cast-depth : goal.overflow_cast-depth
-overflow_cast-depth c = let a = here c in omega arith
-
 pub overflow_add-depth : goal.overflow_add-depth
-overflow_add-depth c = let a = here c in omega arith
+overflow_add-depth c = let a = here (goal.at.overflow_add-depth c).After-number-parent in omega arith
 
 pub loop-n-preserved : goal.loop-n-preserved
-loop-n-preserved c = λ g t. measured_more g _ _ _ (above (goal.at.loop-n-preserved c).After-number-parent g t) (omega arith) t.rooted (c.loop-n.invariant g t) c.if-depth-le-PATH.true
+loop-n-preserved c = λ g t. rw c.from-depth.ensures (measured_more g _ _ _ (above (goal.at.loop-n-preserved c).After-number-parent g t) (omega arith) t.rooted (c.loop-n.invariant g t) (rw c.from-depth.ensures at c.if-depth-gt-PATH.false))
 
 pub loop-n-init : goal.loop-n-init
 loop-n-init c g t = measured_root g _ t.rooted.some_node refl refl
 
-pub overflow_cast-depths : goal.overflow_cast-depths
-overflow_cast-depths c = omega arith
-
-pub bounds-depths-n : goal.bounds-depths-n
-bounds-depths-n c = omega arith
-
-pub returns-else-depth-le-PATH : goal.returns-else-depth-le-PATH
-returns-else-depth-le-PATH c g t = measured_not g _ _ _ (above (goal.at.returns-else-depth-le-PATH c).After-number-parent g t) (omega arith) c.if-depth-le-PATH.false
+pub returns-then-depth-gt-PATH : goal.returns-then-depth-gt-PATH
+returns-then-depth-gt-PATH c g t = measured_not g _ _ _ (above (goal.at.returns-then-depth-gt-PATH c).After-number-parent g t) (omega arith) (rw c.from-depth.ensures at c.if-depth-gt-PATH.true)
 
 pub returns : goal.returns
 returns c g t = measured_all g _ _ (c.loop-n.invariant g t) (omega arith)

@@ -1,10 +1,7 @@
 -- What is found from the start on is what is found from the place on: no byte before it is the one.
-use Rattle.std.proofs.Common.{◌-◌, ◌≤◌, ◌≡◌, length}
+use Rattle.std.proofs.Common.{◌≡◌}
 use Rattle.trials.specs.Lists.{place_of}
 use Rattle.trials.proofs.lists.find.Given as goal
 
 abbrev pub invariant-loop-at : goal.invariant-loop-at
-invariant-loop-at l = (place_of l.text l.start l.byte ≡ place_of l.text l.at l.byte) × (l.start ≤ l.at) × (l.at ≤ length l.text)
-
-abbrev pub decreases-loop-at : goal.decreases-loop-at
-decreases-loop-at l = length l.text - l.at
+invariant-loop-at l = place_of l.text l.start l.byte ≡ place_of l.text l.at l.byte

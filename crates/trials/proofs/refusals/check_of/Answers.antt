@@ -1,17 +1,12 @@
--- The number at the place is taken in, or none is left.
-use Rattle.std.proofs.Common.{arith, refl, sym, ◌∙◌}
-use Rattle.trials.specs.Checks.{checksum_of}
-use Rattle.trials.proofs.Scans.{check_end, check_more}
+-- Each number is taken in after its sign, from the first on.
+use Rattle.std.proofs.Common.{◌≡◌, ℕ, rules, sym, ◌∙◌}
+use Rattle.std.specs.List.{fold}
+use Rattle.trials.specs.Checks.{taken_in_of, checksum_of}
+use Rattle.trials.proofs.Scans.{check_folds}
 use Rattle.trials.proofs.refusals.check_of.Goals as goal
 
-pub loop-at-init : goal.loop-at-init
-unfolding checksum_of
-loop-at-init c = (refl, omega arith)
-
-pub loop-at-preserved : goal.loop-at-preserved
-loop-at-preserved c =
-    let l = c.loop-at in
-    (l.invariant.0 ∙ check_more l.check c.args.numbers.now l.at (omega arith) ∙ rw (c.taken_in-check.ensures, c.taken_in.ensures), omega arith)
-
 pub returns : goal.returns
-returns c = sym (c.loop-at.invariant.0 ∙ check_end c.loop-at.check c.args.numbers.now c.loop-at.at (omega arith))
+unfolding checksum_of
+returns c =
+    let folded : c.fold.result ≡ fold (λ (k x : ℕ). taken_in_of (taken_in_of k 0) x) 0 c.args.numbers.now = search rules in
+    folded ∙ sym (check_folds 0 c.args.numbers.now)

@@ -8,4 +8,4 @@ pub returns : goal.returns
 unfolding header_bits
 returns c =
     let a = c.args in
-    header_filled a.self a.out.now (omega arith) c.put_four.ensures
+    header_filled a.self a.out.now (omega arith) c.put_fields.ensures

@@ -19,8 +19,8 @@ pub returns : goal.returns
 returns c =
     let bytes = c.args.bytes.now in
     let word = c.read_field-word.ensures.0 in
-    header_is bytes _ _ _ _
+    rw c.new.ensures (header_is bytes _ _ _ _
     (cut_field bytes 0 0 4 36 word c.cut-edition.ensures.0)
     (cut_field bytes 0 4 12 24 word c.cut-nodes.ensures.0)
     (cut_field bytes 0 16 12 12 word c.cut-sets.ensures.0)
-    (cut_field bytes 0 28 12 0 word c.cut-root_weight.ensures.0)
+    (cut_field bytes 0 28 12 0 word c.cut-root_weight.ensures.0))

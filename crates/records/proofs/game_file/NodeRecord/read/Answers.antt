@@ -17,9 +17,10 @@ returns c =
     let bytes = a.bytes.now in
     let at = a.records + 64 * a.n in
     let halves = c.read-halves.ensures in
-    node_read bytes a.n at _ _ _ _ _
+    node_read bytes a.n at _ _ _ _ _ _
     (node_place bytes a.records a.n (omega arith))
-    (cut_first bytes at 2 30 halves.0 c.cut-kind.ensures.0)
+    (cut_first bytes at 2 30 halves.0 c.cut.ensures.0)
+    c.from-kind.ensures
     (cut_field bytes at 2 12 18 halves.0 c.cut-parent.ensures.0)
     (cut_field bytes at 14 6 12 halves.0 c.cut-place.ensures.0)
     (cut_field bytes at 20 12 0 halves.0 c.cut-weight.ensures.0)

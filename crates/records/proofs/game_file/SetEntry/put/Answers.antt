@@ -10,4 +10,4 @@ pub returns : goal.returns
 unfolding entry_bits
 returns c =
     let a = c.args in
-    entry_filled a.self a.h (40 + 8 * a.h) a.out.now refl (omega arith) c.put_two.ensures
+    entry_filled a.self a.h (40 + 8 * a.h) a.out.now refl (omega arith) c.put_fields.ensures

@@ -8,4 +8,4 @@ pub returns : goal.returns
 unfolding plan_header_bits
 returns c =
     let a = c.args in
-    plan_header_filled a.self a.out.now (omega arith) c.put_four.ensures
+    plan_header_filled a.self a.out.now (omega arith) c.put_fields.ensures

@@ -1,6 +1,0 @@
--- Each case leaves fewer bytes of the list.
-use Rattle.std.proofs.Common.{◌-◌, length}
-use Rattle.try_writers.proofs.try_cases.Given as goal
-
-abbrev pub decreases-loop-start : goal.decreases-loop-start
-decreases-loop-start g l = length l.names - l.start
