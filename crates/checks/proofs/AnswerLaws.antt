@@ -1,11 +1,10 @@
 -- Laws of answers: what an `Ok` and an `Err` say of the refusal's number, and the other way.
 use Prim.Native.Nat.{ℕ, zero, suc}
 use mathlib.Core.Path.{◌≡◌, refl, sym, ap, ◌∙◌}
-use native.Mathlib.Omega.{arith}
 use mathlib.Core.List.{List, [], ◌∷◌}
 use Rattle.std.specs.Prelude.{Result, Ok, Err, get_or, pred, IsErrAnd}
 use Rattle.std.proofs.lemmas.Result.{err_from_is_err_and}
-use Rattle.model.specs.Call.{Answer, given, refused, answer_of}
+use Rattle.model.specs.Call.{given, refused, answer_of}
 use Rattle.checks.specs.declared.Refusal.{Refusal}
 use Rattle.checks.specs.Answers.{refusal_number, answered, number_of}
 use Rattle.checks.proofs.Chains.{number_some}

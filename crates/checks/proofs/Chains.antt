@@ -14,29 +14,29 @@ use Rattle.model.proofs.Rows.{named, named_of, refusal_of_lem, refusal_append}
 use Rattle.std.specs.Prelude.{Result, Ok, Err}
 use Rattle.checks.specs.declared.Refusal.{Refusal}
 use Rattle.checks.specs.declared.Refusal.TheVariants.{Room}
-use Rattle.checks.specs.Answers.{refusal_number, checked_of, answered, number_of}
+use Rattle.checks.specs.Answers.{refusal_number, checked_of}
 
 -- the answer of a check
 abbrev pub Checked : Type 0
 Checked = Result (Unit {0}) Refusal
 
 -- a test's answer
-pub is_fine : (e : Refusal) {b : Bool} → b ≡ true → Ok tt ≡ checked_of e b
+pub is_fine : {E : Type 0} (e : E) {b : Bool} → b ≡ true → Ok tt ≡ checked_of e b
 is_fine e t = rw t
 
-pub is_broken : (e : Refusal) {b : Bool} → b ≡ false → Err e ≡ checked_of e b
+pub is_broken : {E : Type 0} (e : E) {b : Bool} → b ≡ false → Err e ≡ checked_of e b
 is_broken e t = rw t
 
 -- a check that is fine holds
-pub fine_holds : (e : Refusal) (b : Bool) {r : Checked} {u : Unit {0}} → r ≡ checked_of e b → r ≡ Ok u → b ≡ true
+pub fine_holds : {E : Type 0} (e : E) (b : Bool) {r : Result (Unit {0}) E} {u : Unit {0}} → r ≡ checked_of e b → r ≡ Ok u → b ≡ true
 fine_holds e true c f = refl
 fine_holds e false c f = absurd cc
 
-pub fine_test : (e : Refusal) (b : Bool) {r : Checked} {u : Unit {0}} → r ≡ checked_of e b → r ≡ Ok u → T b
+pub fine_test : {E : Type 0} (e : E) (b : Bool) {r : Result (Unit {0}) E} {u : Unit {0}} → r ≡ checked_of e b → r ≡ Ok u → T b
 fine_test e b c f = rw (fine_holds e b c f) tt
 
 -- one that is broken does not, and has its own refusal
-pub broken_fails : (e : Refusal) (b : Bool) {r : Checked} {d : Refusal} → r ≡ checked_of e b → r ≡ Err d → (b ≡ false) × (d ≡ e)
+pub broken_fails : {E : Type 0} (e : E) (b : Bool) {r : Result (Unit {0}) E} {d : E} → r ≡ checked_of e b → r ≡ Err d → (b ≡ false) × (d ≡ e)
 broken_fails e false c f = (refl, cc)
 broken_fails e true c f = absurd (cc)
 
@@ -79,16 +79,25 @@ module _ {A : Type 0} where
   begin whole a = record { same = refl }
 
   -- a check is fine
-  pub passes : {whole rest : Rows A} {k : ℕ} {test : A → Bool} {P : A → Type 0} {a : A} (e : Refusal) {r : Checked} {u : Unit {0}} → Left whole (row k test P ∷ rest) a → r ≡ checked_of e (test a) → r ≡ Ok u → Left whole rest a
+  pub passes : {whole rest : Rows A} {k : ℕ} {test : A → Bool} {P : A → Type 0} {a : A} {E : Type 0} (e : E) {r : Result (Unit {0}) E} {u : Unit {0}} → Left whole (row k test P ∷ rest) a → r ≡ checked_of e (test a) → r ≡ Ok u → Left whole rest a
   unfolding refusal
   passes {rest = rest} {k} {test} {a = a} e l c f = record { same = l.same ∙ rw (fine_holds e (test a) c f) }
 
-  -- a check is broken: its number is the refusal
-  pub stops : {whole rest : Rows A} {k : ℕ} {test : A → Bool} {P : A → Type 0} {a : A} (e : Refusal) {d : Refusal} {r : Checked} → Left whole (row k test P ∷ rest) a → refusal_number e ≡ k → r ≡ checked_of e (test a) → r ≡ Err d → Refuses whole a (refusal_number d)
+  -- a check is broken: its number is the refusal, by any numbering of refusals in which it is not 0
+  pub stops_by : {whole rest : Rows A} {k : ℕ} {test : A → Bool} {P : A → Type 0} {a : A} {E : Type 0} (number : E → ℕ) (e : E) {d : E} {r : Result (Unit {0}) E} → Left whole (row k test P ∷ rest) a → ¬ (k ≡ 0) → number e ≡ k → r ≡ checked_of e (test a) → r ≡ Err d → Refuses whole a (number d)
   unfolding refusal
-  stops {k = k} {test} {a = a} e {d} l n c f =
+  stops_by {k = k} {test} {a = a} number e {d} l some n c f =
       let h = broken_fails e (test a) c f in
-      record { is = l.same ∙ rw h.0 (sym n ∙ ap refusal_number (sym h.1)); some = number_some d }
+      let same : number d ≡ k = ap number h.1 ∙ n in
+      record { is = l.same ∙ rw h.0 (sym same); some = λ z. some (sym same ∙ z) }
+
+  -- a check by its own number
+  pub stops_at : {whole rest : Rows A} {k : ℕ} {test : A → Bool} {P : A → Type 0} {a : A} {r : Result (Unit {0}) ℕ} {n : ℕ} → Left whole (row (suc k) test P ∷ rest) a → r ≡ checked_of (suc k) (test a) → r ≡ Err n → Refuses whole a n × (n ≡ suc k)
+  stops_at {k = k} {test} {a = a} l c f = (stops_by (λ (i : ℕ). i) (suc k) l (λ z. omega arith) refl c f, (broken_fails (suc k) (test a) c f).1)
+
+  -- a check by its refusal
+  pub stops : {whole rest : Rows A} {k : ℕ} {test : A → Bool} {P : A → Type 0} {a : A} (e : Refusal) {d : Refusal} {r : Checked} → Left whole (row k test P ∷ rest) a → refusal_number e ≡ k → r ≡ checked_of e (test a) → r ≡ Err d → Refuses whole a (refusal_number d)
+  stops e l n c f = stops_by refusal_number e l (λ z. number_some e (n ∙ z)) n c f
 
   -- all are fine
   pub ends : {whole : Rows A} {a : A} → Left whole [] a → refusal whole a ≡ 0

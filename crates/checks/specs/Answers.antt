@@ -29,8 +29,8 @@ refusal_number SheetForm = 19
 refusal_number NoOdds = 20
 refusal_number NoDenominator = 21
 
--- a check's answer, by its refusal and its test
-abbrev pub checked_of : Refusal → Bool → Result (Unit {0}) Refusal
+-- a check's answer, by its refusal and its test; a refusal may also be a number, or anything else that says why
+abbrev pub checked_of : {E : Type 0} → E → Bool → Result (Unit {0}) E
 checked_of e true = Ok tt
 checked_of e false = Err e
 

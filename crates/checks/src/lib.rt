@@ -40,8 +40,8 @@ impl Refusal {
     }
 }
 
-// The check that refuses so, by its test.
-pub fn check(refusal: Refusal, holds: bool) -> Result<(), Refusal>
+// The check that refuses so, by its test: with a `Refusal`, as every call here does, or with whatever else says why, as a number.
+pub fn check<E: Drop>(refusal: E, holds: bool) -> Result<(), E>
     ensures { result ≡ checked_of refusal holds }
 {
     if holds { Ok(()) } else { Err(refusal) }

@@ -48,7 +48,7 @@ fn well_formed(node: NodeRecord) -> bool
     match node.payload {
         Payload::Leaf { .. } => true,
         Payload::Decision { padding, .. } | Payload::Chance { padding, .. } => padding == 0,
-        Payload::Unknown => false,
+        Payload::Unknown { .. } => false,
     }
 }
 
@@ -60,7 +60,7 @@ fn payload_number(node: NodeRecord) -> usize
     match node.payload {
         Payload::Decision { set, .. } => set,
         Payload::Chance { moves, .. } => moves,
-        Payload::Leaf { .. } | Payload::Unknown => 0,
+        Payload::Leaf { .. } | Payload::Unknown { .. } => 0,
     }
 }
 
@@ -97,7 +97,7 @@ fn put_leaf(node: NodeRecord, at: usize, payoffs: &mut [i16]) -> usize
             put_payoffs(payoff1, payoff2, at, payoffs);
             at + 1
         }
-        Payload::Decision { .. } | Payload::Chance { .. } | Payload::Unknown => at,
+        Payload::Decision { .. } | Payload::Chance { .. } | Payload::Unknown { .. } => at,
     }
 }
 

@@ -8,6 +8,7 @@ pub use fitting::GameLists;
 pub use from_sheet::plan_from_sheet;
 pub use game::GameCounts;
 pub use game_writer::write as write_game;
+pub use loaded::Player;
 pub use lookups::{Node, Place, SetFields, check_game, node_record, own_sequence, set_entry};
 pub use plan_writer::write as write_plan;
 pub use plans::{PlanCounts, check_plan, plan_fields};

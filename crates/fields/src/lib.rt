@@ -19,7 +19,7 @@ use game::GameCounts;
 fn each_has_room(size: usize, rooms: &[usize]) -> bool
     ensures { result ≡ list_all (λ room. leb size room) rooms.now }
 {
-    rooms.iter().all(|&room| size <= room)
+    rooms.iter().all(|&room| checks::room_and(size, room, true))
 }
 
 // Check 18: whether the sets' buffers have room for `h` entries and the nodes' for `n`.

@@ -1,41 +1,38 @@
 -- The records of nodes, and how many bits each has.
-use Prim.Native.Nat.{ℕ, zero, suc, ◌*◌, ◌<◌}
+use Prim.Native.Nat.{ℕ, zero, suc, ◌*◌}
 use mathlib.Core.Path.{◌≡◌, refl, ap, ◌∙◌}
-use native.Mathlib.Omega.{arith}
 use lib.ListN.{length, length-append}
 use Rattle.algebra.specs.Arrays.{item}
 use Rattle.model.specs.Writing.{GameFields, set_bits, payload_bits, node_bits}
 use Rattle.model.proofs.Bits.{length_bits}
-use Rattle.records.specs.declared.game_file.Kind.{Kind}
 use Rattle.records.specs.declared.game_file.NodeRecord.{NodeRecord}
 use Rattle.records.specs.Records as Records
-use Rattle.records.proofs.KindNumbers.{kind_number_of}
 use Rattle.game_writer.specs.Nodes.{payload_by, node_of}
 
--- the payload of a node is of the node's kind
-kind_is : (t : GameFields) (n : ℕ) (k : Kind) → Records.kind_in (payload_by t n k) ≡ k
-unfolding Records.kind_in payload_by
-kind_is t n Kind.Leaf = refl
-kind_is t n Kind.Decision = refl
-kind_is t n Kind.Chance = refl
-kind_is t n Kind.Unknown = refl
+-- the number of a payload's kind is the node's
+number_is : (t : GameFields) (kind n : ℕ) → item t.kinds n ≡ kind → Records.number_in (payload_by t n (Records.kind_of kind)) ≡ kind
+unfolding Records.number_in Records.kind_of payload_by
+number_is t zero n e = refl
+number_is t (suc zero) n e = refl
+number_is t (suc (suc zero)) n e = refl
+number_is t (suc (suc (suc k))) n e = e
 
 -- the bits of a node's payload, by its kind
-payload_is : (t : GameFields) (kind n : ℕ) → kind < 3 → Records.payload_bits (payload_by t n (Records.kind_of kind)) ≡ payload_bits t kind n
+payload_is : (t : GameFields) (kind n : ℕ) → Records.payload_bits (payload_by t n (Records.kind_of kind)) ≡ payload_bits t kind n
 unfolding Records.payload_bits Records.kind_of payload_by payload_bits
-payload_is t zero n l = refl
-payload_is t (suc zero) n l = refl
-payload_is t (suc (suc zero)) n l = refl
-payload_is t (suc (suc (suc k))) n l = absurd (omega (arith, l))
+payload_is t zero n = refl
+payload_is t (suc zero) n = refl
+payload_is t (suc (suc zero)) n = refl
+payload_is t (suc (suc (suc k))) n = refl
 
 -- the bits of node n's record are the model's
-pub node_is : (t : GameFields) (n : ℕ) → item t.kinds n < 3 → Records.node_bits (node_of t n) ≡ node_bits t n
+pub node_is : (t : GameFields) (n : ℕ) → Records.node_bits (node_of t n) ≡ node_bits t n
 unfolding Records.node_bits node_bits
-node_is t n l = rw (kind_is t n (Records.kind_of (item t.kinds n)), kind_number_of (item t.kinds n) (omega arith), payload_is t (item t.kinds n) n l) refl
+node_is t n = rw (number_is t (item t.kinds n) n refl, payload_is t (item t.kinds n) n) refl
 
 -- the record that is made of node n
-pub record_made : (t : GameFields) (n : ℕ) (x : NodeRecord) → item t.kinds n < 3 → x ≡ node_of t n → Records.node_bits x ≡ node_bits t n
-record_made t n x l e = ap Records.node_bits e ∙ node_is t n l
+pub record_made : (t : GameFields) (n : ℕ) (x : NodeRecord) → x ≡ node_of t n → Records.node_bits x ≡ node_bits t n
+record_made t n x e = ap Records.node_bits e ∙ node_is t n
 
 -- 32 bits of payload
 payload_width : (t : GameFields) (kind n : ℕ) → length (payload_bits t kind n) ≡ 32

@@ -1,5 +1,5 @@
 -- The record that is made of each node of the lists that the game writer is given.
-use Rattle.std.specs.Prelude.{ℕ, ◌<◌, length}
+use Rattle.std.specs.Prelude.{ℕ}
 use Rattle.algebra.specs.Arrays.{item, item_z}
 use Rattle.model.specs.Writing.{GameFields}
 use Rattle.records.specs.declared.game_file.Kind.{Kind}
@@ -7,16 +7,12 @@ use Rattle.records.specs.declared.game_file.Payload.{Payload}
 use Rattle.records.specs.declared.game_file.NodeRecord.{NodeRecord}
 use Rattle.records.specs.Records.{kind_of}
 
--- every node is of one of the three kinds
-abbrev pub KindsFit : GameFields → Type 0
-KindsFit t = (n : ℕ) → n < length t.kinds → item t.kinds n < 3
-
 -- the payload of node n as one of a kind
 unfoldable pub payload_by : GameFields → (n : ℕ) → Kind → Payload
 payload_by t n Kind.Leaf = Payload.Leaf (item_z t.payoffs1 n) (item_z t.payoffs2 n)
 payload_by t n Kind.Decision = Payload.Decision (item t.node_sets n) 0
 payload_by t n Kind.Chance = Payload.Chance (item t.chance_moves n) 0
-payload_by t n Kind.Unknown = Payload.Unknown
+payload_by t n Kind.Unknown = Payload.Unknown (item t.kinds n) (item t.chance_moves n) 0
 
 -- the payload of node n
 abbrev pub payload_of : GameFields → (n : ℕ) → Payload

@@ -12,7 +12,7 @@ ghost use Rattle.model.specs.Exported.{same};
 ghost use Rattle.checks.specs.Answers.{answered};
 ghost use Rattle.records.specs.Records.{header_with};
 ghost use Rattle.fitting.specs.GameLists.{fields_of_lists, SetsFit, NodesFit};
-ghost use Rattle.game_writer.specs.Nodes.{KindsFit, payload_of, node_of};
+ghost use Rattle.game_writer.specs.Nodes.{payload_of, node_of};
 
 use checks::Refusal;
 use fitting::GameLists;
@@ -50,7 +50,11 @@ fn payload_at(lists: &GameLists<'_>, n: usize) -> Payload
             moves: bits::index(lists.chance_moves[n]),
             padding: 0,
         },
-        Kind::Unknown => Payload::Unknown,
+        Kind::Unknown => Payload::Unknown {
+            kind: lists.kinds[n],
+            moves: bits::index(lists.chance_moves[n]),
+            padding: 0,
+        },
     }
 }
 
@@ -69,7 +73,7 @@ fn node_at(lists: &GameLists<'_>, n: usize) -> NodeRecord
 
 // The node records of lists that fit, from bit `records` on.
 fn put_nodes(lists: &GameLists<'_>, out: &mut [u8], records: usize)
-    requires { NodesFit (fields_of_lists lists.now) × KindsFit (fields_of_lists lists.now) × (records ≡ 8 * (records / 8)) × (records < 33000) × (records / 8 + 8 * length lists.now.kinds.now ≤ length out.old) }
+    requires { NodesFit (fields_of_lists lists.now) × (records ≡ 8 * (records / 8)) × (records < 33000) × (records / 8 + 8 * length lists.now.kinds.now ≤ length out.old) }
     ensures { out.new ≡ placed (records / 8) (pack (join_to (length lists.now.kinds.now) (node_bits (fields_of_lists lists.now)))) out.old }
 {
     for n in 0..lists.kinds.len() {

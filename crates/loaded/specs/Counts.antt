@@ -6,6 +6,7 @@ use Rattle.loaded.specs.Leaves.{leaves_of}
 use Rattle.loaded.specs.Sections.{leaf_section, payoff_section, head_section_of}
 use Rattle.loaded.specs.declared.Counts.{Counts}
 use Rattle.loaded.specs.declared.Side.{Side}
+use Rattle.loaded.specs.declared.Player.TheVariants.{One, Two}
 
 -- nodes, sets, leaves, each player's sequences, and D0
 unfoldable pub counts_of : Game → Counts
@@ -20,5 +21,5 @@ counts_of g = record {
 
 -- a player's side
 unfoldable pub side_of : Counts → Player → Side
-side_of c one = record { own = leaf_section one; opponent = leaf_section two; payoffs = payoff_section one; heads = head_section_of one; sequences = c.sequences1 }
-side_of c two = record { own = leaf_section two; opponent = leaf_section one; payoffs = payoff_section two; heads = head_section_of two; sequences = c.sequences2 }
+side_of c one = record { player = One; own = leaf_section one; opponent = leaf_section two; payoffs = payoff_section one; heads = head_section_of one; sequences = c.sequences1 }
+side_of c two = record { player = Two; own = leaf_section two; opponent = leaf_section one; payoffs = payoff_section two; heads = head_section_of two; sequences = c.sequences2 }

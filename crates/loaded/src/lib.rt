@@ -36,9 +36,10 @@ pub struct LoadedGame<'a> {
     pub counts: Counts,
 }
 
-// What one player's best response takes of a loaded game: where his own sequences and the other's stand by leaf, where his payoffs begin and the first sets that his sequences lead to, and how many sequences he has.
+// What one player's best response takes of a loaded game: who he is, where his own sequences and the other's stand by leaf, where his payoffs begin and the first sets that his sequences lead to, and how many sequences he has.
 #[derive(Clone, Copy)]
 pub struct Side {
+    pub player: Player,
     pub own: usize,
     pub opponent: usize,
     pub payoffs: usize,
@@ -105,6 +106,7 @@ impl Counts {
     {
         match player {
             Player::One => Side {
+                player: Player::One,
                 own: Section::LEAF1,
                 opponent: Section::LEAF2,
                 payoffs: Section::PAYOFFS1,
@@ -112,6 +114,7 @@ impl Counts {
                 sequences: self.sequences1,
             },
             Player::Two => Side {
+                player: Player::Two,
                 own: Section::LEAF2,
                 opponent: Section::LEAF1,
                 payoffs: Section::PAYOFFS2,
@@ -123,7 +126,10 @@ impl Counts {
 }
 
 // Where each section begins.
-pub struct Section;
+#[derive(Clone, Copy)]
+pub struct Section {
+    pub at: usize,
+}
 
 impl Section {
     // The places of a section.

@@ -98,7 +98,7 @@ fn node_by_kind(node: NodeRecord) -> Node
             at,
             moves: moves as u64,
         },
-        Payload::Unknown => Node::Chance { at, moves: 0 },
+        Payload::Unknown { .. } => Node::Chance { at, moves: 0 },
     }
 }
 

@@ -16,7 +16,7 @@ use Rattle.records.specs.declared.game_file.Payload.{Payload}
 use Rattle.records.specs.declared.game_file.NodeRecord.{NodeRecord}
 use Rattle.records.specs.declared.plan_file.PlanHeader.{PlanHeader}
 use Rattle.records.specs.PlanRecords.{plan_header_bits}
-use Rattle.records.specs.Records.{header_bits, entry_bits, kind_number, kind_in, payload_bits, node_bits}
+use Rattle.records.specs.Records.{header_bits, entry_bits, number_in, payload_bits, node_bits}
 
 -- bits that fill k bytes, put from the first bit of a byte on
 filled : (k from at : ℕ) (l out : List ℕ) {after : List ℕ} → BitList (8 * k) l → at ≡ 8 * from → from + k ≤ length out → after ≡ bits_put out at l → after ≡ placed from (packed k l) out
@@ -42,13 +42,13 @@ unfolding payload_bits
 payload_are (Payload.Leaf payoff1 payoff2) = bitlist_append (bitlist_bits 16 _) (bitlist_bits 16 _)
 payload_are (Payload.Decision set padding) = bitlist_append (bitlist_bits 12 _) (bitlist_bits 20 _)
 payload_are (Payload.Chance moves padding) = bitlist_append (bitlist_bits 7 _) (bitlist_bits 25 _)
-payload_are Payload.Unknown = bitlist_append (bitlist_bits 7 _) (bitlist_bits 25 _)
+payload_are (Payload.Unknown kind moves padding) = bitlist_append (bitlist_bits 7 _) (bitlist_bits 25 _)
 
 -- the fields of a node record, and its payload after them
-pub node_filled : (x : NodeRecord) (from at kind : ℕ) (out : List ℕ) {front after : List ℕ} → kind ≡ kind_number (kind_in x.payload) → at ≡ 8 * from → from + 8 ≤ length out → front ≡ bits_put out at (bits 2 kind ++ bits 12 x.parent ++ bits 6 x.place ++ bits 12 x.weight) → after ≡ bits_put front (at + 32) (payload_bits x.payload) → after ≡ placed from (packed 8 (node_bits x)) out
+pub node_filled : (x : NodeRecord) (from at kind : ℕ) (out : List ℕ) {front after : List ℕ} → kind ≡ number_in x.payload → at ≡ 8 * from → from + 8 ≤ length out → front ≡ bits_put out at (bits 2 kind ++ bits 12 x.parent ++ bits 6 x.place ++ bits 12 x.weight) → after ≡ bits_put front (at + 32) (payload_bits x.payload) → after ≡ placed from (packed 8 (node_bits x)) out
 unfolding node_bits
 node_filled x from at kind out k e room f g =
-    let number = kind_number (kind_in x.payload) in
+    let number = number_in x.payload in
     let fields = bits 2 number ++ bits 12 x.parent ++ bits 6 x.place ++ bits 12 x.weight in
     let payload = payload_bits x.payload in
     let size : length fields ≡ 32 = simp (length-append, length_bits) in

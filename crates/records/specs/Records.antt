@@ -56,49 +56,56 @@ unfoldable pub kind_in : Payload → Kind
 kind_in (Payload.Leaf payoff1 payoff2) = Kind.Leaf
 kind_in (Payload.Decision set padding) = Kind.Decision
 kind_in (Payload.Chance moves padding) = Kind.Chance
-kind_in Payload.Unknown = Kind.Unknown
+kind_in (Payload.Unknown kind moves padding) = Kind.Unknown
+
+-- the number that stands for it: of a kind that no node has, the one that the payload says
+unfoldable pub number_in : Payload → ℕ
+number_in (Payload.Leaf payoff1 payoff2) = 0
+number_in (Payload.Decision set padding) = 1
+number_in (Payload.Chance moves padding) = 2
+number_in (Payload.Unknown kind moves padding) = kind
 
 -- a decision's set, and 0 of any other kind
 unfoldable pub set_in : Payload → ℕ
 set_in (Payload.Leaf payoff1 payoff2) = 0
 set_in (Payload.Decision set padding) = set
 set_in (Payload.Chance moves padding) = 0
-set_in Payload.Unknown = 0
+set_in (Payload.Unknown kind moves padding) = 0
 
 -- a chance node's move count, likewise
 unfoldable pub moves_in : Payload → ℕ
 moves_in (Payload.Leaf payoff1 payoff2) = 0
 moves_in (Payload.Decision set padding) = 0
 moves_in (Payload.Chance moves padding) = moves
-moves_in Payload.Unknown = 0
+moves_in (Payload.Unknown kind moves padding) = 0
 
 -- a leaf's payoff of player 1
 unfoldable pub payoff1_in : Payload → ℤ
 payoff1_in (Payload.Leaf payoff1 payoff2) = payoff1
 payoff1_in (Payload.Decision set padding) = pos 0
 payoff1_in (Payload.Chance moves padding) = pos 0
-payoff1_in Payload.Unknown = pos 0
+payoff1_in (Payload.Unknown kind moves padding) = pos 0
 
 -- a leaf's payoff of player 2
 unfoldable pub payoff2_in : Payload → ℤ
 payoff2_in (Payload.Leaf payoff1 payoff2) = payoff2
 payoff2_in (Payload.Decision set padding) = pos 0
 payoff2_in (Payload.Chance moves padding) = pos 0
-payoff2_in Payload.Unknown = pos 0
+payoff2_in (Payload.Unknown kind moves padding) = pos 0
 
 -- the number in the padding, 0 where there is none
 unfoldable pub padding_in : Payload → ℕ
 padding_in (Payload.Leaf payoff1 payoff2) = 0
 padding_in (Payload.Decision set padding) = padding
 padding_in (Payload.Chance moves padding) = padding
-padding_in Payload.Unknown = 0
+padding_in (Payload.Unknown kind moves padding) = padding
 
 -- the payload that begins at a bit: two payoffs, a set and zeros, a move count and zeros
 unfoldable pub payload_by : List ℕ → (at : ℕ) → Kind → Payload
 payload_by bytes at Kind.Leaf = Payload.Leaf (signed 16 (field bytes at 16)) (signed 16 (field bytes (at + 16) 16))
 payload_by bytes at Kind.Decision = Payload.Decision (field bytes at 12) (field bytes (at + 12) 20)
 payload_by bytes at Kind.Chance = Payload.Chance (field bytes at 7) (field bytes (at + 7) 25)
-payload_by bytes at Kind.Unknown = Payload.Unknown
+payload_by bytes at Kind.Unknown = Payload.Unknown (kind_number Kind.Unknown) 0 0
 
 -- by the number of the kind
 unfoldable pub payload_of : List ℕ → (at kind : ℕ) → Payload
@@ -109,7 +116,7 @@ unfoldable pub payload_bits : Payload → List ℕ
 payload_bits (Payload.Leaf payoff1 payoff2) = bits 16 (twos_complement 16 payoff1) ++ bits 16 (twos_complement 16 payoff2)
 payload_bits (Payload.Decision set padding) = bits 12 set ++ bits 20 padding
 payload_bits (Payload.Chance moves padding) = bits 7 moves ++ bits 25 padding
-payload_bits Payload.Unknown = bits 7 0 ++ bits 25 0
+payload_bits (Payload.Unknown kind moves padding) = bits 7 moves ++ bits 25 padding
 
 -- The record of node n, what its kind has, and the widths of its fields.
 pub record NodeRead (bytes : List ℕ) (n : ℕ) (r : NodeRecord) : Type 0 where
@@ -128,7 +135,7 @@ pub record NodeRead (bytes : List ℕ) (n : ℕ) (r : NodeRecord) : Type 0 where
 
 -- the bits of a node record: kind, parent, move at the parent, weight, payload
 unfoldable pub node_bits : NodeRecord → List ℕ
-node_bits x = bits 2 (kind_number (kind_in x.payload)) ++ bits 12 x.parent ++ bits 6 x.place ++ bits 12 x.weight ++ payload_bits x.payload
+node_bits x = bits 2 (number_in x.payload) ++ bits 12 x.parent ++ bits 6 x.place ++ bits 12 x.weight ++ payload_bits x.payload
 
 -- where the node records begin, and how many there are
 pub record Framed (bytes : List ℕ) (records nodes : ℕ) : Type 0 where

@@ -1,11 +1,11 @@
 // The records of a game file, read and put. Where a field stands and how wide it is, its edition and its limits are said here alone.
-ghost use Rattle.std.specs.Prelude.{◌≡◌, ℕ, ◌+◌, ◌*◌, ◌/◌, ◌≤◌, ◌<◌, ◌^◌, List, length};
+ghost use Rattle.std.specs.Prelude.{◌≡◌, ℕ, ◌++◌, ◌+◌, ◌*◌, ◌/◌, ◌≤◌, ◌<◌, ◌^◌, List, length};
 ghost use Rattle.algebra.specs.Arrays.{placed};
-ghost use Rattle.model.specs.Bits.{field, packed};
+ghost use Rattle.model.specs.Bits.{bits, field, packed};
 ghost use Rattle.model.specs.Game.{game_of, node_at, node_moves};
 ghost use Rattle.model.specs.GameChecks.{is_move_count_of};
 ghost use Rattle.bits.specs.Puts.{bits_put};
-ghost use Rattle.records.specs.Records.{header_of, header_with, header_bits, SetRead, entry_bits, kind_number, kind_of, kind_in, set_in, moves_in, payoff1_in, payoff2_in, payload_by, payload_bits, NodeRead, node_bits};
+ghost use Rattle.records.specs.Records.{header_of, header_with, header_bits, SetRead, entry_bits, kind_number, kind_of, kind_in, number_in, set_in, moves_in, payoff1_in, payoff2_in, payload_by, payload_bits, NodeRead, node_bits};
 
 use bit_reader::Pair;
 
@@ -184,12 +184,41 @@ impl From<u64> for Kind {
 }
 
 // What a node has by its kind. The padding after a set or a move count is read, since a check asks that it is zero.
+// A record with a kind that no node has is read with that kind and zeros; one that is put may have any kind's number, and a move count.
 #[derive(Clone, Copy, PartialEq, Eq)]
 pub enum Payload {
-    Leaf { payoff1: i16, payoff2: i16 },
-    Decision { set: usize, padding: u64 },
-    Chance { moves: usize, padding: u64 },
-    Unknown,
+    Leaf {
+        payoff1: i16,
+        payoff2: i16,
+    },
+    Decision {
+        set: usize,
+        padding: u64,
+    },
+    Chance {
+        moves: usize,
+        padding: u64,
+    },
+    Unknown {
+        kind: u64,
+        moves: usize,
+        padding: u64,
+    },
+}
+
+// A move count and what follows it, from bit `at` on.
+fn put_moves(out: &mut [u8], at: usize, moves: usize, padding: u64)
+    requires { (at < 1000000) × (at + 32 ≤ 8 * length out.old) }
+    ensures { out.new ≡ bits_put out.old at (bits 7 moves ++ bits 25 padding) }
+{
+    bit_writer::put_fields(
+        out,
+        at,
+        &[
+            (Payload::MOVES_BITS, moves as u64),
+            (Payload::MOVES_PADDING, padding),
+        ],
+    );
 }
 
 impl Payload {
@@ -220,7 +249,18 @@ impl Payload {
             Payload::Leaf { .. } => Kind::Leaf,
             Payload::Decision { .. } => Kind::Decision,
             Payload::Chance { .. } => Kind::Chance,
-            Payload::Unknown => Kind::Unknown,
+            Payload::Unknown { .. } => Kind::Unknown,
+        }
+    }
+
+    // The number that stands for its kind.
+    #[tactic(auto, unfolding(crate::specs::Records::number_in, crate::specs::Records::kind_in, crate::specs::Records::kind_number))]
+    fn number(self) -> u64
+        ensures { result ≡ number_in self }
+    {
+        match self {
+            Payload::Unknown { kind, .. } => kind,
+            _ => self.kind().number(),
         }
     }
 
@@ -278,7 +318,11 @@ impl Payload {
                 let padding = bits::cut(word, 0, Payload::MOVES_PADDING);
                 Payload::Chance { moves, padding }
             }
-            Kind::Unknown => Payload::Unknown,
+            Kind::Unknown => Payload::Unknown {
+                kind: kind.number(),
+                moves: 0,
+                padding: 0,
+            },
         }
     }
 
@@ -308,19 +352,8 @@ impl Payload {
                     (Payload::SET_PADDING, padding),
                 ],
             ),
-            Payload::Chance { moves, padding } => bit_writer::put_fields(
-                out,
-                at,
-                &[
-                    (Payload::MOVES_BITS, moves as u64),
-                    (Payload::MOVES_PADDING, padding),
-                ],
-            ),
-            Payload::Unknown => bit_writer::put_fields(
-                out,
-                at,
-                &[(Payload::MOVES_BITS, 0), (Payload::MOVES_PADDING, 0)],
-            ),
+            Payload::Chance { moves, padding } => put_moves(out, at, moves, padding),
+            Payload::Unknown { moves, padding, .. } => put_moves(out, at, moves, padding),
         }
     }
 }
@@ -398,7 +431,7 @@ impl NodeRecord {
             out,
             at,
             &[
-                (NodeRecord::KIND_BITS, self.payload.kind().number()),
+                (NodeRecord::KIND_BITS, self.payload.number()),
                 (NodeRecord::PARENT_BITS, self.parent as u64),
                 (NodeRecord::PLACE_BITS, self.place as u64),
                 (NodeRecord::WEIGHT_BITS, self.weight),
@@ -423,6 +456,6 @@ pub fn move_count(bytes: &[u8], records: usize, n: usize) -> usize
     match NodeRecord::read(bytes, records, n).payload {
         Payload::Decision { set, .. } => SetEntry::read(bytes, set).moves,
         Payload::Chance { moves, .. } => moves,
-        Payload::Leaf { .. } | Payload::Unknown => 0,
+        Payload::Leaf { .. } | Payload::Unknown { .. } => 0,
     }
 }

@@ -9,12 +9,13 @@ pub mod amount;
 pub mod decimal;
 pub mod lines;
 
-// Puts any bytes.
+// Puts any bytes. Byte by byte, so that the library for C needs no `memmove`, which a copy of a slice became.
 pub fn put_text(text: &[u8], out: &mut [u8], at: usize) -> usize
     requires { TextFits at text.now out.old }
     ensures { Put at text.now out.old out.new result }
 {
-    let end = at + text.len();
-    out[at..end].copy_from_slice(text);
-    end
+    for i in 0..text.len() {
+        out[at + i] = text[i];
+    }
+    at + text.len()
 }

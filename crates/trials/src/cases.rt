@@ -1,9 +1,10 @@
 // Cases by lists: of each case so many lines, the paths of its files.
-ghost use Rattle.std.specs.Prelude.{◌≤◌, ◌-◌, length};
+ghost use Rattle.std.specs.Prelude.{◌≡◌, ◌≤◌, ◌-◌, length, drop};
 ghost use Rattle.std.specs.Iterator.{at_most};
+ghost use Rattle.trials.specs.Lists.{line_at, next_line_of};
 
 use super::lists::{line_at, name_of, next_line};
-use super::{LIST, ROOM, load};
+use super::{LIST, NAMES, ROOM, load};
 use std::rt::Files;
 
 // The lines of a list that are left.
@@ -15,7 +16,9 @@ struct Lines<'a> {
 impl<'a> Lines<'a> {
     // Takes the next line; an empty one at the list's end.
     fn take_line(&mut self) -> &'a [u8]
-        ensures { length self.new.rest.now ≤ length self.old.rest.now - 1 }
+        ensures line { result.now ≡ line_at self.old.rest.now 0 }
+        ensures rest { self.new.rest.now ≡ drop (next_line_of self.old.rest.now 0) self.old.rest.now }
+        ensures shorter { length self.new.rest.now ≤ length self.old.rest.now - 1 }
     {
         let line = line_at(self.rest, 0);
         self.rest = &self.rest[next_line(self.rest, 0)..];
@@ -45,11 +48,11 @@ fn with_file<F: Fn(&[u8])>(rt: &(impl Files + Print), path: &[u8], attempt: F)
     attempt(file);
 }
 
-// Makes an attempt at each file of the list of that name.
+// Makes an attempt at each file of the list of that name, which has a line a file and is shorter than those of cases.
 pub fn each_file<F: Fn(&[u8], &[u8])>(rt: &(impl Files + Print), name: &[u8], attempt: F)
     requires { F.IsAlwaysCallable attempt }
 {
-    let mut room = [0u8; LIST];
+    let mut room = [0u8; NAMES];
     let list = load(rt, name, &mut room);
     for path in (Lines { rest: list }) {
         with_file(rt, path, |file| attempt(path, file));

@@ -21,8 +21,11 @@ pub use output::{say, say_answer, say_buffer, say_heading, say_number, say_numbe
 // One more than the bytes of the longest legal file, so that a longer one is refused and not cut to fit.
 pub const ROOM: usize = Header::LONGEST_FILE + 1;
 
-// As many bytes as a list of cases has at most.
+// As many bytes as a list of the paths of cases has at most.
 pub const LIST: usize = 65536;
+
+// As many bytes as a list of the names of files has at most.
+pub const NAMES: usize = 4096;
 
 // Reads until the buffer is full, the file ends or a read fails, and gives how many bytes it put at the buffer's start.
 // Unlike `files::read_whole` it keeps what was read before a failure. A turn adds as many bytes as the system gives, so no `for` counts the turns.

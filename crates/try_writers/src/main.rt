@@ -36,6 +36,7 @@ fn at_most(number: u64, most: usize) -> usize
 // Of the list whose count stands at word `at`, the entries as they are in `entries`.
 fn list<'a, T>(words: &[u64; WORDS], entries: &'a [T; WORDS], at: usize) -> &'a [T]
     requires { at ≤ 155 }
+    ensures { length result.now ≤ 16 }
 {
     let start = at + 1;
     let end = start + at_most(words[at], ENTRIES);
@@ -70,9 +71,8 @@ fn write_plan(words: &[u64; WORDS], out: &mut [u8]) -> Result<usize, Refusal> {
 // The words of a case's file; 0 past its end.
 fn read_words(file: &[u8]) -> [u64; WORDS] {
     let mut words = [0u64; WORDS];
-    let (fields, _) = file.as_chunks::<8>();
-    for (word, bytes) in words.iter_mut().zip(fields) {
-        *word = u64::from_be_bytes(*bytes);
+    for (word, bytes) in words.iter_mut().zip(file.chunks(8)) {
+        *word = bits::read_field(bytes, 0, 64);
     }
     words
 }

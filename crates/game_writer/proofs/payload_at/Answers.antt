@@ -18,4 +18,4 @@ returns-in-Chance c = rw (sym c.from.ensures ∙ c.in-Chance.is, c.index-in-Chan
 
 pub returns-in-Unknown : goal.returns-in-Unknown
 unfolding payload_by
-returns-in-Unknown c = rw (sym c.from.ensures ∙ c.in-Unknown.is)
+returns-in-Unknown c = rw (sym c.from.ensures ∙ c.in-Unknown.is, c.index-in-Unknown.ensures)

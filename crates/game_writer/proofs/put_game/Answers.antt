@@ -2,7 +2,7 @@
 use native.Mathlib.Omega.{arith}
 use borrow.Author.Rules.{rules}
 use Rattle.model.specs.Writing.{set_count, node_count}
-use Rattle.model.proofs.FieldRules.{FieldRules, kind_below}
+use Rattle.model.proofs.FieldRules.{FieldRules}
 use Rattle.fitting.specs.GameLists.{fields_of_lists}
 use Rattle.fitting.proofs.GameFits.{fitting, sets_fit, nodes_fit}
 use Rattle.game_writer.proofs.GameFiles.{header_records, game_put}
@@ -24,7 +24,7 @@ unfolding set_count node_count
 put_nodes-requires c =
     let f = fits (goal.at.put_nodes-requires c).Start in
     let records = header_records _ c.requires.0 in
-    (nodes_fit _ f, λ n l. kind_below (fields_of_lists c.args.lists.now) _ n (f.kinds n l), omega (arith, records), omega (arith, records, f.sets), omega (arith, records))
+    (nodes_fit _ f, omega (arith, records), omega (arith, records, f.sets), omega (arith, records))
 
 pub put_sets-requires : goal.put_sets-requires
 put_sets-requires c = (sets_fit _ (fits (goal.at.put_sets-requires c).Start), search rules)

@@ -8,4 +8,4 @@ loop-n-init c = putting_none _ 8 _ (node_width _) _ _
 
 pub loop-n-preserved : goal.loop-n-preserved
 loop-n-preserved c =
-    putting_more _ 8 _ (node_width _) _ _ (omega arith) _ _ c.loop-n.invariant _ _ _ (omega arith) refl (record_made _ _ _ (c.requires.1 _ (omega arith)) c.node_at.ensures) c.put.ensures
+    putting_more _ 8 _ (node_width _) _ _ (omega arith) _ _ c.loop-n.invariant _ _ _ (omega arith) refl (record_made _ _ _ c.node_at.ensures) c.put.ensures

@@ -29,4 +29,4 @@ returns-in-Chance c = other_count c.read.ensures c.in-Chance.is (λ e. cc e)
 
 pub returns-in-Leaf : goal.returns-in-Leaf
 unfolding kind_in moves_in
-returns-in-Leaf c = elim c.in-Leaf.is [ inl (one, two, is) ↦ other_count c.read.ensures is (λ e. cc e) | inr is ↦ other_count c.read.ensures is (λ e. cc e) ]
+returns-in-Leaf c = elim c.in-Leaf.is [ inl (one, two, is) ↦ other_count c.read.ensures is (λ e. cc e) | inr (kind, moves, padding, is) ↦ other_count c.read.ensures is (λ e. cc e) ]

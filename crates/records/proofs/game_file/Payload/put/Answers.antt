@@ -19,8 +19,8 @@ returns-in-Decision c = rw c.in-Decision.is c.put_fields-in-Decision.ensures
 
 pub returns-in-Chance : goal.returns-in-Chance
 unfolding payload_bits
-returns-in-Chance c = rw c.in-Chance.is c.put_fields-in-Chance.ensures
+returns-in-Chance c = rw c.in-Chance.is c.put_moves.ensures
 
 pub returns-in-Unknown : goal.returns-in-Unknown
 unfolding payload_bits
-returns-in-Unknown c = rw c.in-Unknown.is c.put_fields-in-Unknown.ensures
+returns-in-Unknown c = rw c.in-Unknown.is c.put_moves-in-Unknown.ensures

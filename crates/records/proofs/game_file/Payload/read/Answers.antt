@@ -32,4 +32,4 @@ returns-in-Chance c = λ bytes at word.
 
 pub returns-in-Unknown : goal.returns-in-Unknown
 unfolding payload_by
-returns-in-Unknown c = λ bytes at word. rw c.in-Unknown.is
+returns-in-Unknown c = λ bytes at word. rw (c.in-Unknown.is, c.number.ensures, c.in-Unknown.is)
