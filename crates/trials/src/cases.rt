@@ -48,15 +48,31 @@ fn with_file<F: Fn(&[u8])>(rt: &(impl Files + Print), path: &[u8], attempt: F)
     attempt(file);
 }
 
-// Makes an attempt at each file of the list of that name, which has a line a file and is shorter than those of cases.
-pub fn each_file<F: Fn(&[u8], &[u8])>(rt: &(impl Files + Print), name: &[u8], attempt: F)
+// Makes an attempt at each file of a list, which has a line a file.
+fn each_listed<F: Fn(&[u8], &[u8])>(rt: &(impl Files + Print), list: &[u8], attempt: F)
     requires { F.IsAlwaysCallable attempt }
 {
-    let mut room = [0u8; NAMES];
-    let list = load(rt, name, &mut room);
     for path in (Lines { rest: list }) {
         with_file(rt, path, |file| attempt(path, file));
     }
+}
+
+// Makes an attempt at each file of the list of that name.
+pub fn each_file<F: Fn(&[u8], &[u8])>(rt: &(impl Files + Print), name: &[u8], attempt: F)
+    requires { F.IsAlwaysCallable attempt }
+{
+    let mut room = [0u8; LIST];
+    let paths = load(rt, name, &mut room);
+    each_listed(rt, paths, attempt);
+}
+
+// Likewise of a list of names, which is shorter than one of paths.
+pub fn each_named_file<F: Fn(&[u8], &[u8])>(rt: &(impl Files + Print), name: &[u8], attempt: F)
+    requires { F.IsAlwaysCallable attempt }
+{
+    let mut room = [0u8; NAMES];
+    let names = load(rt, name, &mut room);
+    each_listed(rt, names, attempt);
 }
 
 // Makes an attempt at each case of the list of that name: its lines are by turns the path of a game's file and that of the file that goes with it.

@@ -15,7 +15,7 @@ pub mod lists;
 pub mod output;
 pub mod refusals;
 
-pub use cases::{each_case, each_case_of_three, each_file, each_room};
+pub use cases::{each_case, each_case_of_three, each_file, each_named_file, each_room};
 pub use output::{say, say_answer, say_buffer, say_heading, say_number, say_numbers, say_written};
 
 // One more than the bytes of the longest legal file, so that a longer one is refused and not cut to fit.

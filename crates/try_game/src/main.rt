@@ -3,7 +3,7 @@
 
 use entry::{GameBuffers, GameCounts, Node, Place, Refusal};
 use std::rt::Files;
-use trials::{ROOM, each_file, load, say, say_answer, say_heading, say_number, say_numbers};
+use trials::{ROOM, each_named_file, load, say, say_answer, say_heading, say_number, say_numbers};
 
 // What is known of a game beside its lists.
 fn say_counts(rt: &impl Print, label: &[u8], counts: GameCounts) {
@@ -142,7 +142,7 @@ fn try_all_fields(rt: &(impl Files + Print), name: &[u8]) {
 }
 
 fn main(rt: HostRuntime) {
-    each_file(&rt, b"cases", |name, game| {
+    each_named_file(&rt, b"cases", |name, game| {
         try_game(&rt, name, game);
     });
     try_look_ups(&rt, b"00-study-game");

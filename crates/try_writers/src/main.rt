@@ -6,7 +6,7 @@ ghost use Rattle.std.specs.Prelude.{◌≤◌, ◌^◌, length};
 
 use entry::{GameLists, Refusal};
 use records::NodeRecord;
-use trials::{ROOM, each_file, say, say_buffer, say_number, say_written};
+use trials::{ROOM, each_named_file, say, say_buffer, say_number, say_written};
 
 // One more than a game has nodes or sets.
 const TOO_MANY: usize = NodeRecord::NODES + 1;
@@ -151,10 +151,10 @@ fn try_long_plan(rt: &impl Print, count: usize)
 }
 
 fn main(rt: HostRuntime) {
-    each_file(&rt, b"games", |name, file| {
+    each_named_file(&rt, b"games", |name, file| {
         try_case(&rt, name, file, |words, out| write_game(words, out));
     });
-    each_file(&rt, b"plans", |name, file| {
+    each_named_file(&rt, b"plans", |name, file| {
         try_case(&rt, name, file, |words, out| write_plan(words, out));
     });
     try_long_game(&rt, NodeRecord::NODES, 0);

@@ -5,6 +5,7 @@
 pub mod desk;
 pub mod form;
 pub mod game;
+pub mod lists;
 pub mod plan;
 pub mod program;
 pub mod report;
@@ -32,6 +33,7 @@ pub fn programs() -> Result<Vec<Program>, Refusal> {
         report::try_report()?,
         sheets::try_sheets()?,
         tolerance::try_tolerance()?,
+        lists::try_lists(),
         responses::time_responses()?,
     ])
 }

@@ -1,0 +1,38 @@
+//! The list of `try_lists`, as long as a list of paths may be.
+
+use crate::program::Program;
+use crate::text::{joined, list};
+
+/// As many bytes as a list of paths has at most, and one of names.
+const PATHS: usize = 65_536;
+const NAMES: usize = 4_096;
+
+/// The bytes of each line: a file's name and the line's end.
+const LINE: usize = 128;
+
+/// A file's name, as long as its line allows, by the bytes that it has.
+fn name(bytes: usize) -> String {
+    format!("{bytes:0width$}-bytes", width = LINE - "-bytes\n".len())
+}
+
+/// The lengths of the files by line: each has 1 byte, but for the last that a list of names has
+/// room for, with 2, and the last of all, with 3.
+fn lengths() -> Vec<usize> {
+    let mut lengths = vec![1; PATHS / LINE];
+    lengths[NAMES / LINE - 1] = 2;
+    lengths[PATHS / LINE - 1] = 3;
+    lengths
+}
+
+/// The program with its three files and the list.
+pub fn try_lists() -> Program {
+    let lengths = lengths();
+    let mut files: Vec<_> = [1, 2, 3]
+        .map(|bytes| (name(bytes), vec![0; bytes]))
+        .into();
+    let names = lengths.iter().map(|&bytes| name(bytes));
+    files.push(("files".to_string(), list(names)));
+    let shown = |lengths| joined(lengths, usize::to_string);
+    let (paths, names) = (shown(&lengths), shown(&lengths[..NAMES / LINE]));
+    Program::new("try_lists", files, format!("paths:{paths}\nnames:{names}\n"))
+}
