@@ -27,12 +27,11 @@ fn lengths() -> Vec<usize> {
 /// The program with its three files and the list.
 pub fn try_lists() -> Program {
     let lengths = lengths();
-    let mut files: Vec<_> = [1, 2, 3]
-        .map(|bytes| (name(bytes), vec![0; bytes]))
-        .into();
+    let mut files: Vec<_> = [1, 2, 3].map(|bytes| (name(bytes), vec![0; bytes])).into();
     let names = lengths.iter().map(|&bytes| name(bytes));
     files.push(("files".to_string(), list(names)));
-    let shown = |lengths| joined(lengths, usize::to_string);
-    let (paths, names) = (shown(&lengths), shown(&lengths[..NAMES / LINE]));
-    Program::new("try_lists", files, format!("paths:{paths}\nnames:{names}\n"))
+    let paths = joined(&lengths, usize::to_string);
+    let names = joined(&lengths[..NAMES / LINE], usize::to_string);
+    let stdout = format!("paths:{paths}\nnames:{names}\n");
+    Program::new("try_lists", files, stdout)
 }
