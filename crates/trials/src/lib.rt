@@ -21,7 +21,7 @@ pub use output::{say, say_answer, say_buffer, say_heading, say_number, say_numbe
 // One more than the bytes of the longest legal file, so that a longer one is refused and not cut to fit.
 pub const ROOM: usize = Header::LONGEST_FILE + 1;
 
-// As many bytes as a list of the paths of cases has at most.
+// As many bytes as a list of paths has at most.
 pub const LIST: usize = 65536;
 
 // As many bytes as a list of the names of files has at most.

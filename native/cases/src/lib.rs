@@ -1,6 +1,7 @@
 //! The data files and the expected output of the programs under `crates/`.
 //! The files come from the generator or are made here, the output comes from
-//! the reference implementation: nothing is taken from a run of a program.
+//! the reference implementation, that of `try_lists` from the lengths of its
+//! files: nothing is taken from a run of a program.
 
 pub mod desk;
 pub mod form;
